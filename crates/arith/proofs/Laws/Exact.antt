@@ -1,0 +1,94 @@
+-- What has few enough digits is its own rounding: x itself, x + c against x, twice x; and two values of one sign and size are one.
+-- Assumes nothing.
+use Prim.Native.Nat.{_*_, _+_, _-_, _/_, _<_, _^_, min, suc, ℕ, _≤_}
+use mathlib.Core.Bool.{Bool, cond, false, true}
+use mathlib.Core.Path.{ap, refl, subst, sym, _∙_, _≡_}
+use native.Mathlib.Nat.{le-of-eq, le-of-lt, le-trans, min-eq-right, mul-add, mul-div-cancel, mul-one, two-pow-succ}
+use native.Mathlib.Omega.{arith}
+use lib.Dec.{T}
+use lib.Ieee.{add, down, fin, fits, Float, Format, hid, inf, low, nan, prec, size, toBits, top}
+use lib.Ieee.Bits.{ofBits-toBits}
+use lib.Ieee.Exact.{HasValue}
+use lib.Ieee.Fits.{down-pos}
+use lib.Pow.{pow-pos}
+use Rattle.arith.proofs.Rounding.Fraction.{rounded, rounded-fix}
+use Rattle.arith.proofs.Rounding.Key.{finiteNumber, key, key-is, magnitude, mid, negative, Representable}
+use Rattle.arith.proofs.Rounding.Key.{representable-of, side}
+use Rattle.arith.proofs.Rounding.RoundKey.{Difference, roundKey, roundKey-mono, roundKey-side}
+use Rattle.arith.proofs.Rounding.Sum.{add-key}
+
+-- ---- fixed points: (a - b) / c is the signed n = q * 2 ^ j
+pub roundKey-fix : (f : Format) (s : Bool) (q j a b c : ℕ) → 0 < c → q < 2 ^ prec f → Difference s (q * 2 ^ j * c) a b
+    → roundKey f a b c ≡ side (mid f) s (min (mid f) (q * 2 ^ j))
+roundKey-fix f s q j a b c C Q d = roundKey-side f s (q * 2 ^ j * c) a b c C d ∙ ap
+    (λ (z : ℕ). side (mid f) s (min (mid f) z)) (rounded-fix (prec f) q j c C Q)
+
+pub diff-key : (M t : ℕ) (s : Bool) → t ≤ M → Difference s t (side M s t) M
+diff-key M t false h = refl
+diff-key M t true h = omega arith
+
+-- x itself
+pub roundKey-self : (f : Format) (x : Float) → T (finiteNumber f x) → roundKey f (key f x) (mid f) 1 ≡ key f x
+roundKey-self f x p =
+    let h = representable-of f x p in
+    let l : magnitude f x ≤ mid f = le-of-lt (h .small) in
+    rw (key-is f x)
+    (roundKey-side f (negative x) (magnitude f x) (side (mid f) (negative x) (magnitude f x)) (mid f) 1 (pow-pos 0)
+        (diff-key (mid f) (magnitude f x) (negative x) l)
+    ∙ ap (λ (z : ℕ). side (mid f) (negative x) (min (mid f) z)) (self f x h)
+    ∙ ap (λ (z : ℕ). side (mid f) (negative x) z) (min-eq-right l))
+  where
+    self : (f : Format) (x : Float) → Representable f x → rounded (prec f) (magnitude f x) 1 ≡ magnitude f x
+    self f x h = rw (h .whole) (ap (λ (z : ℕ). rounded (prec f) z 1) (sym (mul-one (h .q * 2 ^ h .j))) ∙ rounded-fix
+        (prec f) (h .q) (h .j) 1 (pow-pos 0) (h .short))
+
+-- ---- x + c is no less than x for c ≥ 0: best ≤ best + 1e-12
+pub add-ge : (f : Format) (x c : Float) → T (finiteNumber f x) → T (finiteNumber f c) → mid f ≤ key f c
+    → key f x ≤ key f (add f x c)
+add-ge f x c p q h =
+    let e : roundKey f (key f x) (mid f) 1 ≤ roundKey f (key f x + key f c) (mid f + mid f) 1 = roundKey-mono f
+        (key f x) (mid f) 1 (key f x + key f c) (mid f + mid f) 1 (pow-pos 0) (pow-pos 0) (omega arith) in
+    le-trans (le-of-eq (sym (roundKey-self f x p))) (le-trans e (le-of-eq (sym (add-key f x c p q))))
+
+-- ---- twice x, where that is in range
+pub roundKey-twice : (f : Format) (x : Float) → T (finiteNumber f x) → magnitude f x + magnitude f x ≤ mid f
+    → roundKey f (key f x + key f x) (mid f + mid f) 1 + mid f ≡ key f x + key f x
+roundKey-twice f x p b =
+    let h = representable-of f x p in
+    let t = magnitude f x in
+    let s = negative x in
+    let w : h .q * 2 ^ suc (h .j) ≡ t + t = twice (h .q) (h .j) t (h .whole) in
+    let e : roundKey f (side (mid f) s t + side (mid f) s t) (mid f + mid f) 1 ≡ side (mid f) s (t + t) =
+    roundKey-fix f s (h .q) (suc (h .j)) (side (mid f) s t + side (mid f) s t) (mid f + mid f) 1 (pow-pos 0) (h .short)
+        (subst (λ (z : ℕ). Difference s z (side (mid f) s t + side (mid f) s t) (mid f + mid f))
+        (sym (mul-one (h .q * 2 ^ suc (h .j)) ∙ w)) (diff-two (mid f) t s b))
+    ∙ ap (λ (z : ℕ). side (mid f) s (min (mid f) z)) w ∙ ap (λ (z : ℕ). side (mid f) s z) (min-eq-right b) in
+    rw (key-is f x) (ap (λ (z : ℕ). z + mid f) e ∙ sum-two (mid f) t s b)
+  where
+    twice : (q j t : ℕ) → t ≡ q * 2 ^ j → q * 2 ^ suc j ≡ t + t
+    twice q j t e = rw (two-pow-succ j, mul-add q (2 ^ j) (2 ^ j), e) refl
+
+    diff-two : (M t : ℕ) (s : Bool) → t + t ≤ M → Difference s (t + t) (side M s t + side M s t) (M + M)
+    diff-two M t false h = omega arith
+    diff-two M t true h = omega arith
+
+    sum-two : (M t : ℕ) (s : Bool) → t + t ≤ M → side M s (t + t) + M ≡ side M s t + side M s t
+    sum-two M t false h = omega arith
+    sum-two M t true h = omega arith
+
+-- ---- one leg of zero: the size of the other
+-- two values of the format with one sign and one size are one
+bits-of : (f : Format) (x : Float) (s : Bool) (a : ℕ) → HasValue x s a (2 ^ low f)
+    → toBits f x ≡ cond s (top f) 0 + (size a - prec f) * hid f + a / 2 ^ (size a - prec f)
+unfolding toBits
+bits-of f nan s a h = absurd h
+bits-of f (inf t) s a h = absurd h
+bits-of f (fin t m e) s a h =
+    ap (λ (z : ℕ). cond t (top f) 0 + (size z - prec f) * hid f + z / 2 ^ (size z - prec f))
+        (ap (λ (z : ℕ). z / down e) (h .1) ∙ mul-div-cancel a (down-pos e))
+    ∙ ap (λ (b : Bool). cond b (top f) 0 + (size a - prec f) * hid f + a / 2 ^ (size a - prec f)) (h .0)
+
+pub value-unique : (f : Format) (x y : Float) (s : Bool) (a : ℕ) → T (fits f x) → T (fits f y)
+    → HasValue x s a (2 ^ low f) → HasValue y s a (2 ^ low f) → x ≡ y
+value-unique f x y s a p q h k = sym (ofBits-toBits f x p) ∙ ap (λ (z : ℕ). lib.Ieee.ofBits f z)
+    (bits-of f x s a h ∙ sym (bits-of f y s a k)) ∙ ofBits-toBits f y q

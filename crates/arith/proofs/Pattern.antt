@@ -1,0 +1,3 @@
+-- Pattern
+pub mod Bits
+pub mod Special

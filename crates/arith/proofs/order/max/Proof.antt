@@ -1,0 +1,12 @@
+-- `arith::order::max` meets its contract. Assumes nothing.
+use Rattle.arith.proofs.order.max.Statement.{statement}
+use Rattle.arith.proofs.order.max.Tie as tie
+
+returns : tie.Need-returns
+returns c = rw (c .if1 .taken)
+
+returns-2 : tie.Need-returns-2
+returns-2 c = rw (c .if1 .left)
+
+pub max-spec : {M : Type 1} → statement M
+max-spec = tie.close (tie.spec returns returns-2)

@@ -1,0 +1,39 @@
+// Vectors of three f64 by value.
+ghost use mathlib.Core.Path.{_≡_};
+ghost use Rattle.arith.specs.Vector.{subtract, scaleBy, norm};
+use super::hypotenuse::hypot;
+
+pub struct Vec3 {
+    pub x: f64,
+    pub y: f64,
+    pub z: f64,
+}
+
+impl Vec3 {
+    pub fn sub(self, other: Vec3) -> Vec3
+        ensures { λ r. ⌜ r ≡ subtract self other ⌝ }
+    {
+        Vec3 {
+            x: self.x - other.x,
+            y: self.y - other.y,
+            z: self.z - other.z,
+        }
+    }
+
+    pub fn scale(self, factor: f64) -> Vec3
+        ensures { λ r. ⌜ r ≡ scaleBy self factor ⌝ }
+    {
+        Vec3 {
+            x: self.x * factor,
+            y: self.y * factor,
+            z: self.z * factor,
+        }
+    }
+
+    pub fn length(self) -> f64
+        ensures { λ r. ⌜ r ≡ norm self ⌝ }
+    {
+        let across = hypot(self.x, self.y);
+        hypot(across, self.z)
+    }
+}
