@@ -1,15 +1,16 @@
--- Laws
+-- The laws that callers cite, over any format: order, monotone operations, the middle, bounds, roots, and 01's constants.
+pub mod Order
+pub mod Monotone
+pub mod Exact
+pub mod Middle
+pub mod Depth
+pub mod Bounds
 pub mod Bounded
 pub mod BoundedValue
-pub mod Bounds
-pub mod Depth
-pub mod Exact
+pub mod RootBounded
+pub mod Shift
 pub mod Hypot
 pub mod HypotKey
 pub mod HypotZero
-pub mod Middle
-pub mod Monotone
-pub mod Order
-pub mod RootBounded
-pub mod Shift
 pub mod Sqrt
+pub mod Constants

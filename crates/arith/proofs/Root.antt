@@ -1,15 +1,15 @@
--- Root
-pub mod Bracket
-pub mod Candidate
+-- Roots of whole numbers: digits, rounding and nearness over any format; then what the functions find, at binary64.
 pub mod Digits
+pub mod Sticky
+pub mod Unique
+pub mod Rounds
+pub mod Rounded
+pub mod Nearest
+pub mod Candidate
+pub mod Inside
+pub mod Bracket
+pub mod SqrtCore
+pub mod SqrtValue
 pub mod HypotCore
 pub mod HypotSticky
 pub mod HypotValue
-pub mod Inside
-pub mod Nearest
-pub mod Rounded
-pub mod Rounds
-pub mod SqrtCore
-pub mod SqrtValue
-pub mod Sticky
-pub mod Unique

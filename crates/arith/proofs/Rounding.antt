@@ -1,9 +1,9 @@
--- Rounding
+-- One rounding, from fractions of whole numbers up to the operations of a format.
 pub mod Fraction
+pub mod Nearest
 pub mod Key
 pub mod KeyOrder
-pub mod Nearest
-pub mod Product
-pub mod Quotient
 pub mod RoundKey
 pub mod Sum
+pub mod Product
+pub mod Quotient

@@ -6,16 +6,18 @@ use mathlib.Core.Path.{ap, refl, subst, sym, _∙_, _≡_}
 use native.Mathlib.Nat.{le-of-eq, le-of-lt, le-trans, min-eq-right, mul-add, mul-div-cancel, mul-one, two-pow-succ}
 use native.Mathlib.Omega.{arith}
 use lib.Dec.{T}
-use lib.Ieee.{add, down, fin, fits, Float, Format, hid, inf, low, nan, prec, size, toBits, top}
+use lib.Ieee.{add, down, fin, fits, Float, Format, hid, inf, low, nan, prec, size, toBits, top, le}
 use lib.Ieee.Bits.{ofBits-toBits}
 use lib.Ieee.Exact.{HasValue}
 use lib.Ieee.Fits.{down-pos}
 use lib.Pow.{pow-pos}
 use Rattle.arith.proofs.Rounding.Fraction.{rounded, rounded-fix}
 use Rattle.arith.proofs.Rounding.Key.{finiteNumber, key, key-is, magnitude, mid, negative, Representable}
+use Rattle.arith.proofs.Rounding.Key.{number-of}
 use Rattle.arith.proofs.Rounding.Key.{representable-of, side}
 use Rattle.arith.proofs.Rounding.RoundKey.{Difference, roundKey, roundKey-mono, roundKey-side}
-use Rattle.arith.proofs.Rounding.Sum.{add-key}
+use Rattle.arith.proofs.Rounding.Sum.{add-key, add-number}
+use Rattle.arith.proofs.Rounding.KeyOrder.{key→le}
 
 -- ---- fixed points: (a - b) / c is the signed n = q * 2 ^ j
 pub roundKey-fix : (f : Format) (s : Bool) (q j a b c : ℕ) → 0 < c → q < 2 ^ prec f → Difference s (q * 2 ^ j * c) a b
@@ -49,6 +51,11 @@ add-ge f x c p q h =
     let e : roundKey f (key f x) (mid f) 1 ≤ roundKey f (key f x + key f c) (mid f + mid f) 1 = roundKey-mono f
         (key f x) (mid f) 1 (key f x + key f c) (mid f + mid f) 1 (pow-pos 0) (pow-pos 0) (omega arith) in
     le-trans (le-of-eq (sym (roundKey-self f x p))) (le-trans e (le-of-eq (sym (add-key f x c p q))))
+
+-- the same in the order of floats
+pub add-not-less : (f : Format) (x c : Float) → T (finiteNumber f x) → T (finiteNumber f c) → mid f ≤ key f c
+    → T (le x (add f x c))
+add-not-less f x c p q h = key→le f x (add f x c) (number-of f x p) (add-number f x c p q) (add-ge f x c p q h)
 
 -- ---- twice x, where that is in range
 pub roundKey-twice : (f : Format) (x : Float) → T (finiteNumber f x) → magnitude f x + magnitude f x ≤ mid f

@@ -11,11 +11,12 @@ use lib.Ieee.Scale.{finite}
 use lib.IntN.{ℤ}
 use Rattle.arith.proofs.Root.Rounded.{root-fits, root-ge, root-mono, root-number}
 use Rattle.arith.proofs.Rounding.Fraction.{rounded}
-use Rattle.arith.proofs.Rounding.Key.{finiteNumber, key, key-is, magnitude, mid, negative, number}
+use Rattle.arith.proofs.Rounding.Key.{finiteNumber, key, key-is, magnitude, mid, negative, number, finite-of}
 use Rattle.arith.proofs.Rounding.Key.{representable-of, side, unit}
 use Rattle.arith.proofs.Rounding.KeyOrder.{key→le, le→key}
 use Rattle.arith.proofs.Squares.{square}
 use Rattle.arith.specs.Roots.{hypot, root, sqrt, ticks}
+use Rattle.arith.proofs.Root.Nearest.{NearestRoot, root-nearest}
 
 -- IEEE 754's abs: the sign is cleared
 abbrev pub unsigned : Float → Float
@@ -231,3 +232,11 @@ hypot-fits f (inf s) y = inf-fits f false
 hypot-fits f (fin s m e) nan = nan-fits f
 hypot-fits f (fin s m e) (inf t) = inf-fits f false
 hypot-fits f (fin s m e) (fin t n d) = root-fits f (ticks f (fin s m e) ^ 2 + ticks f (fin t n d) ^ 2)
+
+-- ---- it is the number nearest the exact root of the sum of squares, ties to even
+pub hypot-nearest : (f : Format) (x y : Float) → T (finiteNumber f x) → T (finiteNumber f y)
+    → NearestRoot f (magnitude f x * magnitude f x + magnitude f y * magnitude f y) (hypot f x y)
+hypot-nearest f x y p q =
+    subst (λ (z : Float). NearestRoot f (magnitude f x * magnitude f x + magnitude f y * magnitude f y) z)
+    (sym (hypot-root f x y (finite-of f x p) (finite-of f y q)))
+    (root-nearest f (magnitude f x * magnitude f x + magnitude f y * magnitude f y))

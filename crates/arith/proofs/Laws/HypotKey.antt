@@ -7,7 +7,7 @@ use native.Mathlib.Omega.{arith}
 use lib.Dec.{T}
 use lib.Ieee.{fin, Float, Format, inf, nan}
 use Rattle.arith.proofs.Laws.Hypot.{hypot-root, sqrt-root}
-use Rattle.arith.proofs.Laws.Order.{keySize}
+use Rattle.arith.proofs.Laws.Monotone.{keySize}
 use Rattle.arith.proofs.Root.Rounded.{root-key, root-mono, root-number}
 use Rattle.arith.proofs.Root.Sticky.{stickyRoot}
 use Rattle.arith.proofs.Rounding.Key.{finite-of, finiteNumber, key, key-is, magnitude, magnitude-le, mid}

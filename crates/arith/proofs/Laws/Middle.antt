@@ -12,7 +12,7 @@ use lib.IntN.{negsuc}
 use lib.Pow.{pow-mono, pow-pos}
 use Rattle.arith.proofs.Laws.Bounds.{magnitude-within, Within}
 use Rattle.arith.proofs.Laws.Exact.{diff-key, roundKey-fix, roundKey-self, roundKey-twice}
-use Rattle.arith.proofs.Laws.Order.{times-key}
+use Rattle.arith.proofs.Laws.Monotone.{times-key}
 use Rattle.arith.proofs.Rounding.Key.{finite-inside, finiteNumber, key, key-is, magnitude, mid, negative}
 use Rattle.arith.proofs.Rounding.Key.{Representable, representable-of, side, unit, unit-pos}
 use Rattle.arith.proofs.Rounding.Product.{mul-number, negativePart, positivePart}

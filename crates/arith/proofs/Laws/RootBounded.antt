@@ -8,7 +8,7 @@ use lib.Ieee.{Float, Format, low}
 use lib.Pow.{pow-add, pow-mono}
 use Rattle.arith.proofs.Laws.Bounded.{Bounded, bounded-of-within, fit1, fit2, one-lt, oneAbove, overflow}
 use Rattle.arith.proofs.Laws.HypotKey.{hypot-is, root-not-negative, sqrt-is}
-use Rattle.arith.proofs.Laws.Order.{keySize}
+use Rattle.arith.proofs.Laws.Monotone.{keySize}
 use Rattle.arith.proofs.Root.Rounded.{root-le, root-number}
 use Rattle.arith.proofs.Rounding.Key.{key, mid, unit}
 use Rattle.arith.proofs.Rounding.Product.{positivePart}

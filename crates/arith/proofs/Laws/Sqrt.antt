@@ -11,13 +11,15 @@ use lib.Ieee.Fits.{and-r, inf-fits, nan-fits, up-pos}
 use lib.IntN.{ℤ}
 use lib.Pow.{pow-pos}
 use Rattle.arith.proofs.Laws.Hypot.{inf-key, inf-number, infinite, Kind, kind, le-inf, sqrt-root, usual}
-use Rattle.arith.proofs.Laws.HypotZero.{zero-magnitude}
+use Rattle.arith.proofs.Laws.Hypot.{unsigned}
+use Rattle.arith.proofs.Laws.HypotZero.{zero-magnitude, root-of-square}
 use Rattle.arith.proofs.Root.Rounded.{root-fits, root-ge, root-le, root-mono, root-number}
 use Rattle.arith.proofs.Rounding.Key.{finiteNumber, key, key-is, magnitude, mid, mid-pos, number, number-of}
 use Rattle.arith.proofs.Rounding.Key.{plusZero, plusZero-finiteNumber, plusZero-key, representable-of, unit}
 use Rattle.arith.proofs.Rounding.Key.{unit-pos}
 use Rattle.arith.proofs.Rounding.KeyOrder.{key→le, le→key}
 use Rattle.arith.specs.Roots.{root, sqrt, ticks}
+use Rattle.arith.proofs.Root.Nearest.{NearestRoot, root-nearest}
 
 -- ---- the square root of what is not below zero
 root-nought : (f : Format) → key f (root f 0) ≡ mid f
@@ -144,3 +146,15 @@ sqrt-fits f (inf true) h = nan-fits f
 sqrt-fits f (fin false m e) h = root-fits f (ticks f (fin false m e) * 2 ^ low f)
 sqrt-fits f (fin true zero e) h = h
 sqrt-fits f (fin true (suc m) e) h = nan-fits f
+
+-- ---- it is the number nearest the exact root, ties to even; unit f ticks make 1
+pub sqrt-nearest : (f : Format) (m : ℕ) (e : ℤ)
+    → NearestRoot f (magnitude f (fin false m e) * unit f) (sqrt f (fin false m e))
+sqrt-nearest f m e =
+    subst (λ (z : Float). NearestRoot f (magnitude f (fin false m e) * unit f) z) (sym (sqrt-root f m e))
+    (root-nearest f (magnitude f (fin false m e) * unit f))
+
+-- exact at squares: where y is x * x exactly, its root is |x|
+pub sqrt-square : (f : Format) (x : Float) (m : ℕ) (e : ℤ) → T (finiteNumber f x)
+    → magnitude f (fin false m e) * unit f ≡ magnitude f x * magnitude f x → sqrt f (fin false m e) ≡ unsigned x
+sqrt-square f x m e p h = sqrt-root f m e ∙ ap (λ (n : ℕ). root f n) h ∙ root-of-square f x p

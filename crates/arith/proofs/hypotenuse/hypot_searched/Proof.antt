@@ -1,6 +1,6 @@
 -- `arith::hypotenuse::hypot_searched` meets its contract. Assumes nothing.
 use mathlib.Core.Path.{_≡_, refl}
-use Prim.Native.Nat.{ℕ, zero, suc, _<_, _-_}
+use Prim.Native.Nat.{ℕ, zero, suc, _<_}
 use native.Mathlib.Nat.{zero-lt-suc}
 use Rattle.arith.proofs.Root.HypotCore.{any-far, any-shift, any-law, nothing, within, over}
 use borrow.Author.Needs.{needs}

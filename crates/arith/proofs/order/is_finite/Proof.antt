@@ -1,6 +1,6 @@
 -- `arith::order::is_finite` meets its contract: finite is above minus infinity and below infinity. Assumes nothing.
 use borrow.Author.Needs.{needs}
-use mathlib.Core.Bool.{Bool, true, false}
+use mathlib.Core.Bool.{true, false}
 use mathlib.Core.Path.{_≡_, refl, sym}
 use lib.Ieee.{Float, nan, inf, fin, lt, neg}
 use Rattle.arith.specs.Num.{isFinite}
