@@ -16,8 +16,11 @@ pub times-lt : (a b u : ℕ) → sq (a * u) < sq (b * u) → a < b
 times-lt a b u h = lt-of-mul-lt-mul-right u (sq-lt (a * u) (b * u) h)
 
 pub times-le : (a b u : ℕ) → 0 < u → sq (a * u) ≤ sq (b * u) → a ≤ b
-times-le a b u U h = elim (decide a b) [ inl l ↦ l | inr l ↦ absurd
-    (not-le-of-lt (go (b * u) (a * u) (mul-lt-mul-of-pos-right l U)) h) ]
+times-le a b u U h = elim (decide a b) [
+  | inl l ↦ l
+  | inr l ↦ absurd
+      (not-le-of-lt (go (b * u) (a * u) (mul-lt-mul-of-pos-right l U)) h)
+]
   where
     go : (x y : ℕ) → x < y → sq x < sq y
     go x y l = lt-of-le-of-lt (mul-le-mul-left x (le-of-lt l)) (mul-lt-mul-of-pos-right l (lt-of-le-of-lt zero-le l))

@@ -60,12 +60,18 @@ or-split true b t = inl tt
 or-split false b t = inr t
 
 le→lt-or-eq : (a b : ℕ) → a ≤ b → T (ltb a b || eqb a b)
-le→lt-or-eq a b h = elim (eq-or-lt-of-le h) [ inl p ↦ or-r (ltb a b) (eqb a b) (eq→eqb a b p) | inr q ↦ or-l (ltb a b)
-    (eqb a b) (lt→ltb a b q) ]
+le→lt-or-eq a b h = elim (eq-or-lt-of-le h) [
+  | inl p ↦ or-r (ltb a b) (eqb a b) (eq→eqb a b p)
+  | inr q ↦ or-l (ltb a b)
+      (eqb a b) (lt→ltb a b q)
+]
 
 pub lt-or-eq : (a b : ℕ) → (ltb a b || eqb a b) ≡ leb a b
 lt-or-eq a b =
     bool-ext (ltb a b || eqb a b) (leb a b)
-    (λ t. le→leb a b (elim (or-split (ltb a b) (eqb a b) t) [ inl u ↦ le-of-lt (ltb→lt a b u) | inr u ↦ le-of-eq
-        (eqb→eq a b u) ]))
+    (λ t. le→leb a b (elim (or-split (ltb a b) (eqb a b) t) [
+      | inl u ↦ le-of-lt (ltb→lt a b u)
+      | inr u ↦ le-of-eq
+          (eqb→eq a b u)
+    ]))
     (λ t. le→lt-or-eq a b (leb→le a b t))

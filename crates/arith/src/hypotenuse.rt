@@ -19,7 +19,7 @@ const T63: u64 = 0x8000_0000_0000_0000;
 
 const INF: u64 = 0x7ff0_0000_0000_0000;
 
-// The exponent of the bits p, counted so that p stands for a multiple of 2^exponent smallest values.
+// The exponent of the bits p: they stand for a multiple of 2^exponent smallest values.
 fn exponent(p: u64) -> u64
     ensures { λ r. ⌜ r ≡ p / 2 ^ 52 - 1 ⌝ }
 {
@@ -36,10 +36,13 @@ fn sticky(m: u64, d: u64) -> u64
     if low << (2 * d) == q.lo { 0 } else { 1 }
 }
 
-// The rounded root of mb^2 + ms^2 / 4^d, as a candidate's index; t is 1 where 4^d does not divide (2 * ms)^2.
+// The rounded root of mb^2 + ms^2 / 4^d, as a candidate's index; t is 1 where 4^d does not divide
+// (2 * ms)^2.
 fn hypot_significand(mb: u64, ms: u64, d: u64, t: u64) -> u64
     requires { ⌜ (0 < mb) × (mb < 2 ^ 53) × (ms < 2 ^ 53) × (d < 27) × (ms ≤ mb * 2 ^ d) × (t < 2) ⌝ }
-    ensures { λ r. ⌜ (mb ≤ r) × (r ≤ mb + 2 ^ 52) × RoundsUp ((2 * mb) * (2 * mb) + (2 * ms) * (2 * ms) / 2 ^ (2 * d)) t (r - 1) × RoundsDown ((2 * mb) * (2 * mb) + (2 * ms) * (2 * ms) / 2 ^ (2 * d)) t r ⌝ }
+    ensures { λ r. ⌜ (mb ≤ r) × (r ≤ mb + 2 ^ 52)
+        × RoundsUp ((2 * mb) * (2 * mb) + (2 * ms) * (2 * ms) / 2 ^ (2 * d)) t (r - 1)
+        × RoundsDown ((2 * mb) * (2 * mb) + (2 * ms) * (2 * ms) / 2 ^ (2 * d)) t r ⌝ }
 {
     let z = sum_of_squares(2 * mb, 2 * ms, d);
     bisect(z, t, mb - 1, mb + 0x10_0000_0000_0000)
@@ -58,7 +61,7 @@ fn nearest_half(a: u64, b: u64, d: u64, g: u64) -> u64
     0
 }
 
-// The bits of the hypotenuse of two finite f64's bits with no sign, from scratch.
+// The bits of the hypotenuse of two finite values, by bisection.
 fn hypot_searched(big: u64, small: u64) -> u64
     requires { ⌜ (small ≤ big) × (big < 2047 * 2 ^ 52) ⌝ }
     ensures { λ r. ⌜ HypotIs big small r ⌝ }
@@ -80,12 +83,14 @@ fn hypot_searched(big: u64, small: u64) -> u64
     if r < INF { r } else { INF }
 }
 
+// 1: a is at least b; 0: it is not
 fn at_least(a: u64, b: u64) -> u64
     ensures { λ r. ⌜ r < 2 ⌝ }
 {
     if a >= b { 1 } else { 0 }
 }
 
+// m, or 2 * m where the root lies in big's own binade
 fn scaled(m: u64, top: u64) -> u64
     requires { ⌜ m < 2 ^ 53 ⌝ }
     ensures { λ r. ⌜ Scaled m top r × (r < 2 ^ 54) ⌝ }
@@ -93,7 +98,8 @@ fn scaled(m: u64, top: u64) -> u64
     if top == 1 { m } else { 2 * m }
 }
 
-// The same of two normal f64's bits, by a guess that is checked, n being about the sum of their squares; 0: not decided.
+// The same of two normal values, by a guess that is tested, n being about the sum of their squares;
+// 0: not decided.
 fn hypot_tested(n: f64, big: u64, small: u64) -> u64
     requires { ⌜ (small ≤ big) × (2 ^ 52 ≤ small) × (big < 2000 * 2 ^ 52) ⌝ }
     ensures { λ r. ⌜ (0 < r → HypotIs big small r) ⌝ }
@@ -131,7 +137,7 @@ fn smaller(a: u64, b: u64) -> u64
     if a < b { a } else { b }
 }
 
-// The bits of the hypotenuse of two finite f64's bits with no sign, n being about the sum of their squares.
+// The bits of the hypotenuse of two finite values, n being about the sum of their squares.
 fn hypot_bits(n: f64, a: u64, b: u64) -> u64
     requires { ⌜ (a < 2047 * 2 ^ 52) × (b < 2047 * 2 ^ 52) ⌝ }
     ensures { λ r. ⌜ HypotIs a b r ⌝ }

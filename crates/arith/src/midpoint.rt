@@ -49,7 +49,8 @@ pub fn nearest_of_three(z: Wide, k: u64) -> u64
 // 1: the root lies above the midpoint m / 2, or at it with k odd; 0: not.
 fn rounds_up_at(z: Wide, t: u64, k: u64, m: u64) -> u64
     requires { ⌜ (z .lo < 2 ^ 56) × (t < 2) × (m < 2 ^ 55) ⌝ }
-    ensures { λ r. ⌜ (r ≡ 1 → RoundsUpAt (z .hi * 2 ^ 56 + z .lo) t k m) × (r ≡ 0 → RoundsDownAt (z .hi * 2 ^ 56 + z .lo) t k m) × (r < 2) ⌝ }
+    ensures { λ r. ⌜ (r ≡ 1 → RoundsUpAt (z .hi * 2 ^ 56 + z .lo) t k m)
+        × (r ≡ 0 → RoundsDownAt (z .hi * 2 ^ 56 + z .lo) t k m) × (r < 2) ⌝ }
 {
     let s = square(m);
     if s.hi < z.hi {
@@ -73,7 +74,8 @@ fn rounds_up_at(z: Wide, t: u64, k: u64, m: u64) -> u64
 // 1: the root lies above the midpoint of candidate k and the next, or at it with k odd; 0: not.
 fn rounds_up(z: Wide, t: u64, k: u64) -> u64
     requires { ⌜ (z .lo < 2 ^ 56) × (t < 2) × (k < 2 ^ 53 + 2 ^ 52) ⌝ }
-    ensures { λ r. ⌜ (r ≡ 1 → RoundsUp (z .hi * 2 ^ 56 + z .lo) t k) × (r ≡ 0 → RoundsDown (z .hi * 2 ^ 56 + z .lo) t k) × (r < 2) ⌝ }
+    ensures { λ r. ⌜ (r ≡ 1 → RoundsUp (z .hi * 2 ^ 56 + z .lo) t k)
+        × (r ≡ 0 → RoundsDown (z .hi * 2 ^ 56 + z .lo) t k) × (r < 2) ⌝ }
 {
     if k < 0x20_0000_0000_0000 {
         rounds_up_at(z, t, k, 2 * k + 1)
@@ -86,7 +88,8 @@ fn rounds_up(z: Wide, t: u64, k: u64) -> u64
 pub fn bisect(z: Wide, t: u64, lo0: u64, hi0: u64) -> u64
     requires { ⌜ (z .lo < 2 ^ 56) × (t < 2) × (lo0 < hi0) × (hi0 ≤ 2 ^ 53 + 2 ^ 52) ⌝ }
     requires { ⌜ RoundsUp (z .hi * 2 ^ 56 + z .lo) t lo0 × RoundsDown (z .hi * 2 ^ 56 + z .lo) t hi0 ⌝ }
-    ensures { λ r. ⌜ (lo0 < r) × (r ≤ hi0) × RoundsUp (z .hi * 2 ^ 56 + z .lo) t (r - 1) × RoundsDown (z .hi * 2 ^ 56 + z .lo) t r ⌝ }
+    ensures { λ r. ⌜ (lo0 < r) × (r ≤ hi0) × RoundsUp (z .hi * 2 ^ 56 + z .lo) t (r - 1)
+        × RoundsDown (z .hi * 2 ^ 56 + z .lo) t r ⌝ }
 {
     let mut lo = lo0;
     let mut hi = hi0;

@@ -27,7 +27,8 @@ pub fn square(c: u64) -> Wide
 // q / 2^sh, rounded down, with a carry left in lo
 fn shifted(q: Wide, sh: u64) -> Wide
     requires { ⌜ (q .hi < 2 ^ 54) × (q .lo < 2 ^ 56) × (sh ≤ 56) ⌝ }
-    ensures { λ r. ⌜ (r .hi * 2 ^ 56 + r .lo ≡ (q .hi * 2 ^ 56 + q .lo) / 2 ^ sh) × (r .lo < 2 ^ 57) × (r .hi < 2 ^ 54) ⌝ }
+    ensures { λ r. ⌜ (r .hi * 2 ^ 56 + r .lo ≡ (q .hi * 2 ^ 56 + q .lo) / 2 ^ sh) × (r .lo < 2 ^ 57)
+        × (r .hi < 2 ^ 54) ⌝ }
 {
     let high = q.hi >> sh;
     let mid = (q.hi << (56 - sh)) % 0x100_0000_0000_0000;
@@ -38,7 +39,8 @@ fn shifted(q: Wide, sh: u64) -> Wide
 
 fn plus(p: Wide, q: Wide) -> Wide
     requires { ⌜ (p .hi < 2 ^ 54) × (p .lo < 2 ^ 56) × (q .hi < 2 ^ 54) × (q .lo < 2 ^ 57) ⌝ }
-    ensures { λ r. ⌜ (r .hi * 2 ^ 56 + r .lo ≡ (p .hi * 2 ^ 56 + p .lo) + (q .hi * 2 ^ 56 + q .lo)) × (r .lo < 2 ^ 56) × (r .hi < 2 ^ 56) ⌝ }
+    ensures { λ r. ⌜ (r .hi * 2 ^ 56 + r .lo ≡ (p .hi * 2 ^ 56 + p .lo) + (q .hi * 2 ^ 56 + q .lo))
+        × (r .lo < 2 ^ 56) × (r .hi < 2 ^ 56) ⌝ }
 {
     let l = p.lo + q.lo;
     let h = p.hi + q.hi + l / 0x100_0000_0000_0000;
@@ -51,7 +53,8 @@ fn plus(p: Wide, q: Wide) -> Wide
 // a * a + b * b / 4^d, rounded down
 pub fn sum_of_squares(a: u64, b: u64, d: u64) -> Wide
     requires { ⌜ (a < 2 ^ 54) × (b < 2 ^ 54) × (d < 27) ⌝ }
-    ensures { λ r. ⌜ (r .hi * 2 ^ 56 + r .lo ≡ a * a + b * b / 2 ^ (2 * d)) × (r .lo < 2 ^ 56) × (r .hi < 2 ^ 56) ⌝ }
+    ensures { λ r. ⌜ (r .hi * 2 ^ 56 + r .lo ≡ a * a + b * b / 2 ^ (2 * d)) × (r .lo < 2 ^ 56)
+        × (r .hi < 2 ^ 56) ⌝ }
 {
     let p = square(a);
     let q = square(b);

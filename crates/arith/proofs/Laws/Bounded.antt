@@ -82,16 +82,19 @@ module _ (f : Format) (k : ℕ) (K : k < overflow f) (i j : ℕ) (x y : Float) (
       let w : 0 < negativePart f y = omega arith in
       let B : 2 ^ j ≤ negativePart f y = omega arith in
       let U : positivePart f x * unit f ≤ 2 ^ i * unit f = mul-le-mul-right (unit f)
-          (let c : positivePart f x ≤ 2 ^ i = omega arith in c) in
+      (let c : positivePart f x ≤ 2 ^ i = omega arith in c) in
       let V' : negativePart f x * unit f ≤ 2 ^ i * unit f = mul-le-mul-right (unit f)
-          (let c : negativePart f x ≤ 2 ^ i = omega arith in c) in
+      (let c : negativePart f x ≤ 2 ^ i = omega arith in c) in
       let L : 1 * 2 ^ k * 2 ^ j ≤ 1 * 2 ^ k * negativePart f y = mul-le-mul-left (1 * 2 ^ k) B in
       let Q : 2 ^ i * unit f ≤ 1 * 2 ^ k * 2 ^ j = quot a in
       let z = roundKey-within f (negativePart f x * unit f) (positivePart f x * unit f) (negativePart f y) 1 k w
-          (one-lt f) (omega arith) (omega arith) in
+      (one-lt f) (omega arith) (omega arith) in
       bounded-of-within f k (div f x y) (div-number-neg f x y (X .sure) q m) K
-          (record { lower = rw (div-key-neg f x y (X .sure) q m) (z .0); upper = rw (div-key-neg f x y (X .sure) q m)
-          (z .1) })
+      (record {
+        lower = rw (div-key-neg f x y (X .sure) q m) (z .0);
+        upper = rw (div-key-neg f x y (X .sure) q m)
+            (z .1);
+      })
     where
       quot : i + low f ≤ k + j → 2 ^ i * unit f ≤ 1 * 2 ^ k * 2 ^ j
       quot a = unfold unit in rw (one-mul (2 ^ k), ← pow-add 2 i (low f), ← pow-add 2 k j) (pow-mono a)
@@ -110,8 +113,12 @@ bounded-up f i j x h b = let l : 2 ^ i ≤ 2 ^ j = pow-mono h in record
     { sure = b .sure; lower = omega arith; upper = omega arith }
 
 pub plusZero-bounded : (f : Format) (j : ℕ) → Bounded f j plusZero
-plusZero-bounded f j = let e = plusZero-key f in record { sure = plusZero-finiteNumber f; lower = omega arith; upper =
-    omega arith }
+plusZero-bounded f j = let e = plusZero-key f in record {
+  sure = plusZero-finiteNumber f;
+  lower = omega arith;
+  upper =
+      omega arith;
+}
 
 -- what lies between two bounded values
 pub between-bounded : (f : Format) (j : ℕ) (a m b : Float) → T (number f m) → j < overflow f → Bounded f j a

@@ -30,7 +30,7 @@ bounded→value f j (inf s) X = absurd (finite-of f (inf s) (X .sure))
 bounded→value f j (fin s m e) X =
     let x = fin s m e in
     bounded-value (le-trans (le-of-eq (representable-of f x (X .sure) .value .1))
-        (mul-le-mul-right (down e) (magnitude-within f (2 ^ j) x (X .sure) (bounded-within f j x X))))
+    (mul-le-mul-right (down e) (magnitude-within f (2 ^ j) x (X .sure) (bounded-within f j x X))))
 
 pub value-up : (f : Format) (i j : ℕ) {x : Float} → i ≤ j → BoundedValue f i x → BoundedValue f j x
 value-up f i j h (bounded-value {s} {m} {e} X) = bounded-value (le-trans X (mul-le-mul-right (down e) (pow-mono h)))
@@ -40,13 +40,20 @@ module _ (f : Format) (k : ℕ) (K : k < overflow f) where
   round-bounded : (s : Bool) (n d : ℕ) → 0 < d → n * unit f ≤ 2 ^ k * d → Bounded f k (round f s n d)
   round-bounded s n d D h =
       let t : rounded (prec f) (n * unit f) d ≤ 2 ^ k = le-trans (rounded-le (prec f) (n * unit f) d 1 k (prec-pos f) D
-          (pow-lt (prec-pos f)) (le-trans h (le-of-eq (ap (λ (z : ℕ). z * d) (sym (one-mul (2 ^ k)))))))
-          (le-of-eq (one-mul (2 ^ k))) in
+      (pow-lt (prec-pos f)) (le-trans h (le-of-eq (ap (λ (z : ℕ). z * d) (sym (one-mul (2 ^ k)))))))
+      (le-of-eq (one-mul (2 ^ k))) in
       let w = signed (mid f) s (rounded (prec f) (n * unit f) d) (2 ^ k) t in
-      let v : Within f (2 ^ k) (round f s n d) = record { lower = rw (round-key f s n d) (w .0); upper =
-          rw (round-key f s n d) (w .1) } in
-      record { sure = within-finiteNumber f (2 ^ k) (round f s n d) (round-number f s n d) v (mid-lt f k K); lower =
-          v .lower; upper = v .upper }
+      let v : Within f (2 ^ k) (round f s n d) = record {
+        lower = rw (round-key f s n d) (w .0);
+        upper =
+            rw (round-key f s n d) (w .1);
+      } in
+      record {
+        sure = within-finiteNumber f (2 ^ k) (round f s n d) (round-number f s n d) v (mid-lt f k K);
+        lower =
+            v .lower;
+        upper = v .upper;
+      }
     where
       signed : (M : ℕ) (s : Bool) (t w : ℕ) → t ≤ w → (M ≤ side M s (min M t) + w) × (side M s (min M t) ≤ M + w)
       signed M false t w h = omega arith
@@ -87,11 +94,11 @@ module _ (f : Format) (i j k : ℕ) (K : k < overflow f) where
       let D = down e * down d in
       let p = spread (m * up e) (unit f) (2 ^ i) (down e) (down d) X in
       let q : n * up d * down e * unit f ≤ 2 ^ j * D = le-trans (spread (n * up d) (unit f) (2 ^ j) (down d) (down e) Y)
-          (le-of-eq (ap (λ (z : ℕ). 2 ^ j * z) (mul-comm (down d) (down e)))) in
+      (le-of-eq (ap (λ (z : ℕ). 2 ^ j * z) (mul-comm (down d) (down e)))) in
       sum-bounded f k K s (m * up e * down d) t (n * up d * down e) D (mul-pos (down-pos e) (down-pos d))
       (le-trans (le-of-eq (add-mul (m * up e * down d) (n * up d * down e) (unit f)))
-          (le-trans (add-le-add p q) (le-trans (le-of-eq (sym (add-mul (2 ^ i) (2 ^ j) D)))
-          (mul-le-mul-right D (pow-sum i j k a b)))))
+      (le-trans (add-le-add p q) (le-trans (le-of-eq (sym (add-mul (2 ^ i) (2 ^ j) D)))
+      (mul-le-mul-right D (pow-sum i j k a b)))))
 
   pub sub-value : {x y : Float} → i < k → j < k → BoundedValue f i x → BoundedValue f j y → Bounded f k (sub f x y)
   unfolding sub
@@ -129,8 +136,8 @@ module _ (f : Format) (i j k : ℕ) (K : k < overflow f) where
   hypot-value a b (bounded-value {s} {m} {e} X) (bounded-value {s = t} {m = n} {e = d} Y) =
       root-bounded f k ((m * up e * 2 ^ low f / down e) ^ 2 + (n * up d * 2 ^ low f / down d) ^ 2) K
       (rw (square (m * up e * 2 ^ low f / down e), square (n * up d * 2 ^ low f / down d))
-          (squares-le (m * up e * 2 ^ low f / down e) (n * up d * 2 ^ low f / down d) i j k (whole m e i X)
-          (whole n d j Y) a b))
+      (squares-le (m * up e * 2 ^ low f / down e) (n * up d * 2 ^ low f / down d) i j k (whole m e i X)
+      (whole n d j Y) a b))
     where
       whole : (m : ℕ) (e : ℤ) (i : ℕ) → m * up e * unit f ≤ 2 ^ i * down e → m * up e * 2 ^ low f / down e ≤ 2 ^ i
       whole m e i h = unfold unit in div-le-of-le-mul (down e) (le-trans h (le-of-eq (mul-comm (2 ^ i) (down e))))

@@ -48,13 +48,13 @@ module _ (f : Format) (q j : ℕ) (Q : q < 2 ^ prec f) (x y : Float) (px : T (fi
   pub add-within : Within f w y → v + w ≤ q * 2 ^ j → Within f (q * 2 ^ j) (add f x y)
   add-within Y l =
       let z = roundKey-within f (key f x + key f y) (mid f + mid f) 1 q j (pow-pos 0) Q (rw mul-one (omega arith))
-          (rw mul-one (omega arith)) in
+      (rw mul-one (omega arith)) in
       record { lower = rw (add-key f x y px py) (z .0); upper = rw (add-key f x y px py) (z .1) }
 
   pub sub-within : Within f w y → v + w ≤ q * 2 ^ j → Within f (q * 2 ^ j) (sub f x y)
   sub-within Y l =
       let z = roundKey-within f (key f x) (key f y) 1 q j (pow-pos 0) Q (rw mul-one (omega arith))
-          (rw mul-one (omega arith)) in
+      (rw mul-one (omega arith)) in
       record { lower = rw (sub-key f x y px py) (z .0); upper = rw (sub-key f x y px py) (z .1) }
 
   pub mul-within : Within f w y → v * w ≤ q * 2 ^ j * unit f → Within f (q * 2 ^ j) (mul f x y)
@@ -66,10 +66,10 @@ module _ (f : Format) (q j : ℕ) (Q : q < 2 ^ prec f) (x y : Float) (px : T (fi
       let A : a + c ≤ v = omega arith in
       let B : b + d ≤ w = omega arith in
       let S : a * b + a * d + (c * b + c * d) ≤ q * 2 ^ j * unit f = le-trans
-          (le-of-eq (sym (add-mul a c (b + d) ∙ ap (λ (t : ℕ). t + c * (b + d)) (mul-add a b d) ∙ ap
-          (λ (t : ℕ). a * b + a * d + t) (mul-add c b d)))) (le-trans (mul-le-mul A B) l) in
+      (le-of-eq (sym (add-mul a c (b + d) ∙ ap (λ (t : ℕ). t + c * (b + d)) (mul-add a b d) ∙ ap
+      (λ (t : ℕ). a * b + a * d + t) (mul-add c b d)))) (le-trans (mul-le-mul A B) l) in
       let z = roundKey-within f (a * b + c * d) (a * d + c * b) (unit f) q j (unit-pos f) Q (omega arith)
-          (omega arith) in
+      (omega arith) in
       record { lower = rw (mul-key f x y px py) (z .0); upper = rw (mul-key f x y px py) (z .1) }
 
   pub div-within : 0 < w → mid f + w ≤ key f y → v * unit f ≤ q * 2 ^ j * w → Within f (q * 2 ^ j) (div f x y)

@@ -22,12 +22,12 @@ module _ (f : Format) (a b : Float) (p : T (finiteNumber f a)) (q : T (finiteNum
     (B : Within f w b) (W : w + w < mid f) (h : key f a ≤ key f b) where
   pub middle-near : (m : Float) → IsHalf f m → (d : ℕ) → w + w < 2 ^ (prec f + d) → 2 ^ (prec f + d) ≤ mid f
       → (4 * key f (mul f (add f a b) m) ≤ 2 * (key f a + key f b) + 2 ^ d + 2) ×
-          (2 * (key f a + key f b) ≤ 4 * key f (mul f (add f a b) m) + 2 ^ d + 2)
+      (2 * (key f a + key f b) ≤ 4 * key f (mul f (add f a b) m) + 2 ^ d + 2)
   middle-near m i d l u =
       let s = add f a b in
       let n = half-near f s m (sum-finiteNumber f a b p q w A B W h) i in
       let e = roundKey-near f (key f a + key f b) (mid f + mid f) 1 d (pow-pos 0) (rw mul-one (omega arith))
-          (rw mul-one (omega arith)) u in
+      (rw mul-one (omega arith)) u in
       let k : key f s ≡ roundKey f (key f a + key f b) (mid f + mid f) 1 = add-key f a b p q in
       omega arith
 
@@ -45,7 +45,7 @@ level-half W e i w w' h l =
     let x : P * (4 * w') ≤ P * (2 * w + e) = mul-le-mul-left P h in
     let y : P * (2 * w + e) ≡ P * (2 * w) + P * e = mul-add P (2 * w) e in
     let z : (P + P) * (2 * w') ≡ P * (4 * w') = add-mul P P (2 * w') ∙ sym (mul-add P (2 * w') (2 * w')) ∙ ap
-        (λ (t : ℕ). P * t) (four w') in
+    (λ (t : ℕ). P * t) (four w') in
     let v : (P + P) * e ≡ P * e + P * e = add-mul P P e in
     record { held = rw (two-pow-succ i) (omega (arith, l .held)) }
   where
@@ -59,21 +59,27 @@ level-down W e i w l =
     let x : (P + P) * (2 * w) ≡ P * (2 * w) + P * (2 * w) = add-mul P P (2 * w) in
     let y : (P + P) * e ≡ P * e + P * e = add-mul P P e in
     let k : (P + P) * (2 * w) ≤ 2 * W + (P + P) * e = subst (λ (z : ℕ). z * (2 * w) ≤ 2 * W + z * e) (two-pow-succ i)
-        (l .held) in
+    (l .held) in
     record { held = omega arith }
 
 pub level-reach : (W e n i w : ℕ) → n ≤ i → Level W e i w → Level W e n w
 level-reach W e n zero w g l = subst (λ (z : ℕ). Level W e z w) (let z : 0 ≡ n = omega arith in z) l
-level-reach W e n (suc i) w g l = elim (eq-or-lt-of-le g) [ inl z ↦ subst (λ (x : ℕ). Level W e x w) (sym z) l | inr z
-    ↦ level-reach W e n i w (le-of-suc-le-suc z) (level-down W e i w l) ]
+level-reach W e n (suc i) w g l = elim (eq-or-lt-of-le g) [
+  | inl z ↦ subst (λ (x : ℕ). Level W e x w) (sym z) l
+  | inr z
+      ↦ level-reach W e n i w (le-of-suc-le-suc z) (level-down W e i w l)
+]
 
 pub level-wide : (W W' e i w : ℕ) → W ≤ W' → Level W e i w → Level W' e i w
 level-wide W W' e i w h l = record { held = omega arith }
 
 -- an interval wider than t is not as deep as n
 pub level-stop : (W e n t i w : ℕ) → 2 * W + 2 ^ n * e < 2 ^ n * (2 * t) → t ≤ w → Level W e i w → i < n
-level-stop W e n t i w h k l = elim (decide n i) [ inl g ↦ absurd (not-le-of-lt
-    (lt-of-lt-of-le h (mul-le-mul-left (2 ^ n) (two-le t w k))) (level-reach W e n i w g l .held)) | inr g ↦ g ]
+level-stop W e n t i w h k l = elim (decide n i) [
+  | inl g ↦ absurd (not-le-of-lt
+      (lt-of-lt-of-le h (mul-le-mul-left (2 ^ n) (two-le t w k))) (level-reach W e n i w g l .held))
+  | inr g ↦ g
+]
   where
     two-le : (t w : ℕ) → t ≤ w → 2 * t ≤ 2 * w
     two-le t w k = omega arith
@@ -81,10 +87,12 @@ level-stop W e n t i w h k l = elim (decide n i) [ inl g ↦ absurd (not-le-of-l
 -- ---- a rounded width above c is an exact width above c
 pub width-above : (f : Format) (a b c : Float) → T (finiteNumber f a) → T (finiteNumber f b) → T (finiteNumber f c)
     → key f c < key f (sub f b a) → key f c + key f a < key f b + mid f
-width-above f a b c p q r h = elim (decide (key f b + mid f) (key f c + key f a))
-    [ inl g ↦ absurd (not-le-of-lt h (le-trans (le-of-eq (sub-key f b a q p))
-    (le-trans (roundKey-mono f (key f b) (key f a) 1 (key f c) (mid f) 1 (pow-pos 0) (pow-pos 0) (omega arith))
-    (le-of-eq (roundKey-self f c r))))) | inr g ↦ g ]
+width-above f a b c p q r h = elim (decide (key f b + mid f) (key f c + key f a)) [
+  | inl g ↦ absurd (not-le-of-lt h (le-trans (le-of-eq (sub-key f b a q p))
+      (le-trans (roundKey-mono f (key f b) (key f a) 1 (key f c) (mid f) 1 (pow-pos 0) (pow-pos 0) (omega arith))
+      (le-of-eq (roundKey-self f c r)))))
+  | inr g ↦ g
+]
 
 -- ---- both halves of a..b, in exact widths
 pub halves : (f : Format) (a b : Float) → T (finiteNumber f a) → T (finiteNumber f b) → (w : ℕ) → Within f w a
@@ -92,7 +100,7 @@ pub halves : (f : Format) (a b : Float) → T (finiteNumber f a) → T (finiteNu
     → 2 ^ (prec f + d) ≤ mid f
     → (W i : ℕ) → Level W (2 ^ d + 2) i (key f b - key f a)
     → Level W (2 ^ d + 2) (suc i) (key f (mul f (add f a b) m) - key f a) × Level W (2 ^ d + 2) (suc i)
-        (key f b - key f (mul f (add f a b) m))
+    (key f b - key f (mul f (add f a b) m))
 halves f a b p q w A B G h m j d l u W i L =
     let n = middle-near f a b p q w A B G h m j d l u in
     let z = middle f a b p q w A B G h m j in
@@ -122,7 +130,7 @@ pub split : (f : Format) (a b c m : Float) (w d W n i : ℕ) → Scale f c m w d
     → T (lt c (sub f b a)) → Split f a b c m w d W n i
 split f a b c m w d W n i S p q A B h L t =
     let wide = width-above f a b c p q (S .c-sure) (lt→key f c (sub f b a) (number-of f c (S .c-sure))
-        (sub-number f b a q p) t) in
+    (sub-number f b a q p) t) in
     let both = halves f a b p q w A B (S .room) h m (S .halfOf) d (S .digits) (S .digits-mid) W i L in
     record {
       shallow = level-stop W (2 ^ d + 2) n (key f c - mid f) i (key f b - key f a) (S .depth)

@@ -36,7 +36,7 @@ roundKey-self f x p =
     let l : magnitude f x ≤ mid f = le-of-lt (h .small) in
     rw (key-is f x)
     (roundKey-side f (negative x) (magnitude f x) (side (mid f) (negative x) (magnitude f x)) (mid f) 1 (pow-pos 0)
-        (diff-key (mid f) (magnitude f x) (negative x) l)
+    (diff-key (mid f) (magnitude f x) (negative x) l)
     ∙ ap (λ (z : ℕ). side (mid f) (negative x) (min (mid f) z)) (self f x h)
     ∙ ap (λ (z : ℕ). side (mid f) (negative x) z) (min-eq-right l))
   where
@@ -49,7 +49,7 @@ pub add-ge : (f : Format) (x c : Float) → T (finiteNumber f x) → T (finiteNu
     → key f x ≤ key f (add f x c)
 add-ge f x c p q h =
     let e : roundKey f (key f x) (mid f) 1 ≤ roundKey f (key f x + key f c) (mid f + mid f) 1 = roundKey-mono f
-        (key f x) (mid f) 1 (key f x + key f c) (mid f + mid f) 1 (pow-pos 0) (pow-pos 0) (omega arith) in
+    (key f x) (mid f) 1 (key f x + key f c) (mid f + mid f) 1 (pow-pos 0) (pow-pos 0) (omega arith) in
     le-trans (le-of-eq (sym (roundKey-self f x p))) (le-trans e (le-of-eq (sym (add-key f x c p q))))
 
 -- the same in the order of floats
@@ -67,8 +67,8 @@ roundKey-twice f x p b =
     let w : h .q * 2 ^ suc (h .j) ≡ t + t = twice (h .q) (h .j) t (h .whole) in
     let e : roundKey f (side (mid f) s t + side (mid f) s t) (mid f + mid f) 1 ≡ side (mid f) s (t + t) =
     roundKey-fix f s (h .q) (suc (h .j)) (side (mid f) s t + side (mid f) s t) (mid f + mid f) 1 (pow-pos 0) (h .short)
-        (subst (λ (z : ℕ). Difference s z (side (mid f) s t + side (mid f) s t) (mid f + mid f))
-        (sym (mul-one (h .q * 2 ^ suc (h .j)) ∙ w)) (diff-two (mid f) t s b))
+    (subst (λ (z : ℕ). Difference s z (side (mid f) s t + side (mid f) s t) (mid f + mid f))
+    (sym (mul-one (h .q * 2 ^ suc (h .j)) ∙ w)) (diff-two (mid f) t s b))
     ∙ ap (λ (z : ℕ). side (mid f) s (min (mid f) z)) w ∙ ap (λ (z : ℕ). side (mid f) s z) (min-eq-right b) in
     rw (key-is f x) (ap (λ (z : ℕ). z + mid f) e ∙ sum-two (mid f) t s b)
   where
@@ -92,7 +92,7 @@ bits-of f nan s a h = absurd h
 bits-of f (inf t) s a h = absurd h
 bits-of f (fin t m e) s a h =
     ap (λ (z : ℕ). cond t (top f) 0 + (size z - prec f) * hid f + z / 2 ^ (size z - prec f))
-        (ap (λ (z : ℕ). z / down e) (h .1) ∙ mul-div-cancel a (down-pos e))
+    (ap (λ (z : ℕ). z / down e) (h .1) ∙ mul-div-cancel a (down-pos e))
     ∙ ap (λ (b : Bool). cond b (top f) 0 + (size a - prec f) * hid f + a / 2 ^ (size a - prec f)) (h .0)
 
 pub value-unique : (f : Format) (x y : Float) (s : Bool) (a : ℕ) → T (fits f x) → T (fits f y)

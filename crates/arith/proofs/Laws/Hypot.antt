@@ -167,11 +167,11 @@ hypot-ge f x y p q = go (kind f x p) (kind f y q)
         let w = h .whole in
         let n = magnitude f x * magnitude f x + magnitude f y * magnitude f y in
         let rounded : mid f + h .q * 2 ^ h .j ≤ key f (root f n) = root-ge f n (h .q) (h .j) (h .short)
-            (le-trans (le-of-eq (sym w)) (le-of-lt (h .small))) (le-trans (le-of-eq (ap (λ (z : ℕ). z * z) (sym w)))
-            (more (t * t) (magnitude f y * magnitude f y))) in
+        (le-trans (le-of-eq (sym w)) (le-of-lt (h .small))) (le-trans (le-of-eq (ap (λ (z : ℕ). z * z) (sym w)))
+        (more (t * t) (magnitude f y * magnitude f y))) in
         key→le f (unsigned x) (hypot f x y) (unsigned-number f x p) (hypot-number f x y p q)
         (le-trans (le-of-eq (unsigned-key f x p ∙ ap (λ (z : ℕ). mid f + z) w))
-            (le-trans rounded (le-of-eq (ap (λ (z : Float). key f z) (sym (hypot-root f x y a c))))))
+        (le-trans rounded (le-of-eq (ap (λ (z : Float). key f z) (sym (hypot-root f x y a c))))))
 
 pub hypot-ge-right : (f : Format) (x y : Float) → T (number f x) → T (number f y) → T (le (unsigned y) (hypot f x y))
 hypot-ge-right f x y p q = subst (λ (z : Float). T (le (unsigned y) z)) (hypot-comm f y x) (hypot-ge f y x q p)
@@ -210,10 +210,10 @@ hypot-mono f x x' y y' p p' q q' h k = go (kind f x' p') (kind f y' q')
         let Y = magnitude-of-le f y y' q q' k in
         key→le f (hypot f x y) (hypot f x' y') (hypot-number f x y p q) (hypot-number f x' y' p' q')
         (le-trans (le-of-eq (ap (λ (z : Float). key f z) (hypot-root f x y (finite-below f x x' p b X)
-            (finite-below f y y' q d Y))))
+        (finite-below f y y' q d Y))))
         (le-trans (root-mono f (magnitude f x * magnitude f x + magnitude f y * magnitude f y)
-            (magnitude f x' * magnitude f x' + magnitude f y' * magnitude f y')
-            (add-le-add (mul-le-mul X X) (mul-le-mul Y Y)))
+        (magnitude f x' * magnitude f x' + magnitude f y' * magnitude f y')
+        (add-le-add (mul-le-mul X X) (mul-le-mul Y Y)))
         (le-of-eq (ap (λ (z : Float). key f z) (sym (hypot-root f x' y' a c))))))
 
 pub le-self : (f : Format) (x : Float) → T (number f x) → T (le x x)

@@ -45,8 +45,11 @@ sqrt-is f (fin false m e) p h =
     rw a (sqrt-root f m e)
 
 pub root-not-negative : (f : Format) (N : ℕ) → mid f ≤ key f (root f N)
-root-not-negative f N = rw (root-key f N, roundKey-side f false (stickyRoot N) (stickyRoot N) 0 4 (zero-lt-suc 3)
-    (sym (zero-add (stickyRoot N)))) (omega arith)
+root-not-negative f N = rw (
+  root-key f N,
+  roundKey-side f false (stickyRoot N) (stickyRoot N) 0 4 (zero-lt-suc 3)
+      (sym (zero-add (stickyRoot N))),
+) (omega arith)
 
 -- ---- hypot grows with the keySize of each leg
 pub hypot-key : (f : Format) (x y : Float) → T (finiteNumber f x) → T (finiteNumber f y)
@@ -64,4 +67,4 @@ pub hypot-key-mono : (f : Format) (x x' y y' : Float) → T (finiteNumber f x) �
 hypot-key-mono f x x' y y' p p' q q' h k =
     rw (hypot-key f x y p q, hypot-key f x' y' p' q')
     (root-mono f (keySize f x * keySize f x + keySize f y * keySize f y)
-        (keySize f x' * keySize f x' + keySize f y' * keySize f y') (add-le-add (mul-le-mul h h) (mul-le-mul k k)))
+    (keySize f x' * keySize f x' + keySize f y' * keySize f y') (add-le-add (mul-le-mul h h) (mul-le-mul k k)))

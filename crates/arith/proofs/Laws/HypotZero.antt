@@ -33,7 +33,7 @@ root-square : (f : Format) (t : ℕ) → root f (t * t) ≡ round f false t (uni
 root-square f t =
     root-round f (t * t) ∙ ap (λ (z : ℕ). round f false z (4 * unit f)) (stickyRoot-square t)
     ∙ round-same f false (4 * t) (4 * unit f) t (unit f) (mul-pos (zero-lt-suc 3) (unit-pos f)) (unit-pos f)
-        (go t (unit f))
+    (go t (unit f))
   where
     go : (t u : ℕ) → 4 * t * u ≡ t * (4 * u)
     go t u = omega arith
@@ -53,7 +53,7 @@ root-of-square f x h =
     let w = d .whole in
     root-square f t
     ∙ value-unique f (round f false t (unit f)) (unsigned x) false t (round-fits f false t (unit f))
-        (and-l (fits f (unsigned x)) (not (isNan (unsigned x))) (unsigned-number f x (number-of f x h)))
+    (and-l (fits f (unsigned x)) (not (isNan (unsigned x))) (unsigned-number f x (number-of f x h)))
     (exact d) (unsigned-value f x h)
   where
     exact : Representable f x → HasValue (round f false (magnitude f x) (unit f)) false (magnitude f x) (2 ^ low f)

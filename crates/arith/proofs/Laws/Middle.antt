@@ -32,10 +32,10 @@ half-key f x h p i =
     let u = negativePart f x in
     let b : (a + mid f) * (H + H) ≡ (key f x + u) * (H + H) = ap (λ (z : ℕ). z * (H + H)) (omega arith) in
     let e : a * H * 2 + mid f * (H + H) ≡ key f x * (H + H) + u * H * 2 = omega
-        (arith, add-mul a (mid f) (H + H), add-mul (key f x) u (H + H), b, mul-add a H H, mul-add u H H) in
+    (arith, add-mul a (mid f) (H + H), add-mul (key f x) u (H + H), b, mul-add a H H, mul-add u H H) in
     times-key f x h p (i .0) (i .1)
     ∙ roundKey-same f (a * H) (u * H) (unit f) (key f x) (mid f) 2 (unit-pos f) (zero-lt-suc 1)
-        (subst (λ (U : ℕ). a * H * 2 + mid f * U ≡ key f x * U + u * H * 2) (i .2) e)
+    (subst (λ (U : ℕ). a * H * 2 + mid f * U ≡ key f x * U + u * H * 2) (i .2) e)
 
 unfoldable pub half : Float
 half = fin false 1 (negsuc 0)
@@ -79,11 +79,11 @@ module _ (f : Format) (a b : Float) (p : T (finiteNumber f a)) (q : T (finiteNum
   middle m i =
       let s = add f a b in
       let l : key f a ≤ key f (mul f s m) = le-trans (le-of-eq (sym (roundKey-self f a p)))
-          (le-trans (roundKey-mono f (key f a) (mid f) 1 (key f s) (mid f) 2 (pow-pos 0) (zero-lt-suc 1)
-          (omega (arith, sum-low))) (le-of-eq (sym (half-key f s m sum-finiteNumber i)))) in
+      (le-trans (roundKey-mono f (key f a) (mid f) 1 (key f s) (mid f) 2 (pow-pos 0) (zero-lt-suc 1)
+      (omega (arith, sum-low))) (le-of-eq (sym (half-key f s m sum-finiteNumber i)))) in
       let u : key f (mul f s m) ≤ key f b = le-trans (le-of-eq (half-key f s m sum-finiteNumber i))
-          (le-trans (roundKey-mono f (key f s) (mid f) 2 (key f b) (mid f) 1 (zero-lt-suc 1) (pow-pos 0)
-          (omega (arith, sum-high))) (le-of-eq (roundKey-self f b q))) in
+      (le-trans (roundKey-mono f (key f s) (mid f) 2 (key f b) (mid f) 1 (zero-lt-suc 1) (pow-pos 0)
+      (omega (arith, sum-high))) (le-of-eq (roundKey-self f b q))) in
       record {
         sure = finite-inside f (mul f s m) (mul-number f s m sum-finiteNumber (half-finiteNumber f m i)) (omega arith)
             (omega arith);
@@ -129,17 +129,17 @@ half-near f x m p i = rw (half-key f x m p i) (go (H .j) (H .whole))
     go zero e =
         let P = 2 ^ (prec f + 0) in
         let T' : magnitude f x < P = lt-of-le-of-lt (le-of-eq (e ∙ mul-one (H .q)))
-            (lt-of-lt-of-le (H .short) (le-of-eq (ap (λ (z : ℕ). 2 ^ z) (sym (add-zero (prec f)))))) in
+        (lt-of-lt-of-le (H .short) (le-of-eq (ap (λ (z : ℕ). 2 ^ z) (sym (add-zero (prec f)))))) in
         let z = near-key (mid f) (magnitude f x) (negative x) (le-of-lt (H .small)) in
         let n = roundKey-near f (key f x) (mid f) 2 0 (zero-lt-suc 1) (rw (key-is f x) (omega (arith, z .0)))
-            (rw (key-is f x) (omega (arith, z .1))) (pow-mono-mid f) in
+        (rw (key-is f x) (omega (arith, z .1))) (pow-mono-mid f) in
         omega arith
     go (suc j) e =
         let u = H .q * 2 ^ j in
         let d : magnitude f x ≡ u + u = e ∙ ap (λ (z : ℕ). H .q * z) (two-pow-succ j) ∙ mul-add (H .q) (2 ^ j)
-            (2 ^ j) in
+        (2 ^ j) in
         let E : roundKey f (key f x) (mid f) 2 ≡ side (mid f) (negative x) (min (mid f) u) = ap
-            (λ (z : ℕ). roundKey f z (mid f) 2) (key-is f x) ∙ even (negative x) (H .q) j (H .short) e in
+        (λ (z : ℕ). roundKey f z (mid f) 2) (key-is f x) ∙ even (negative x) (H .q) j (H .short) e in
         let W = even-case (mid f) (magnitude f x) u (negative x) d (H .small) in
         let K : key f x ≡ side (mid f) (negative x) (magnitude f x) = key-is f x in
         rw (E, K) (omega arith)

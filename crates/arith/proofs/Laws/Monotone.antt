@@ -21,7 +21,7 @@ lift : (a b c d C u : ℕ) → a + b ≤ c + d → a * C * u + b * C * u ≤ c *
 lift a b c d C u h =
     le-trans (le-of-eq (sym (add-mul (a * C) (b * C) u) ∙ ap (λ (z : ℕ). z * u) (sym (add-mul a b C))))
     (le-trans (mul-le-mul-right u (mul-le-mul-right C h)) (le-of-eq
-        (ap (λ (z : ℕ). z * u) (add-mul c d C) ∙ add-mul (c * C) (d * C) u)))
+    (ap (λ (z : ℕ). z * u) (add-mul c d C) ∙ add-mul (c * C) (d * C) u)))
 
 -- ---- sums and differences grow
 module _ (f : Format) (x x' y y' : Float) (p : T (finiteNumber f x)) (p' : T (finiteNumber f x'))
@@ -54,8 +54,14 @@ pub times-key : (f : Format) (x c : Float) → T (finiteNumber f x) → T (finit
     (unit f)
 times-key f x c p q h =
     let z : negativePart f c ≡ 0 = omega arith in
-    mul-key f x c p q ∙ rw (z, mul-zero (positivePart f x), mul-zero (negativePart f x), zero-add
-        (negativePart f x * positivePart f c), add-zero (positivePart f x * positivePart f c))
+    mul-key f x c p q ∙ rw (
+      z,
+      mul-zero (positivePart f x),
+      mul-zero (negativePart f x),
+      zero-add
+          (negativePart f x * positivePart f c),
+      add-zero (positivePart f x * positivePart f c),
+    )
 
 -- x ≤ x' over a common factor
 pub times-key-mono : (f : Format) (x x' c : Float) → T (finiteNumber f x) → T (finiteNumber f x') → T (finiteNumber f c)
@@ -65,7 +71,7 @@ times-key-mono f x x' c p p' q h l =
     let e : positivePart f x + negativePart f x' ≤ positivePart f x' + negativePart f x = omega arith in
     rw (times-key f x c p q h, times-key f x' c p' q h)
     (roundKey-mono f (positivePart f x * C) (negativePart f x * C) (unit f) (positivePart f x' * C)
-        (negativePart f x' * C) (unit f) (unit-pos f) (unit-pos f)
+    (negativePart f x' * C) (unit f) (unit-pos f) (unit-pos f)
     (lift (positivePart f x) (negativePart f x') (positivePart f x') (negativePart f x) C (unit f) e))
 
 -- both factors grow, all ≥ 0
@@ -78,11 +84,21 @@ product-key-mono f x x' y y' p p' q q' a b h k =
     let c : mid f ≤ key f y' = omega arith in
     let u : positivePart f x ≤ positivePart f x' = omega arith in
     let v : positivePart f y ≤ positivePart f y' = omega arith in
-    rw (times-key f x y p q b, times-key f x' y' p' q' c, z, z', zero-mul (positivePart f y), zero-mul
-        (positivePart f y'))
+    rw (
+      times-key f x y p q b,
+      times-key f x' y' p' q' c,
+      z,
+      z',
+      zero-mul (positivePart f y),
+      zero-mul
+          (positivePart f y'),
+    )
     (roundKey-mono f (positivePart f x * positivePart f y) 0 (unit f) (positivePart f x' * positivePart f y') 0 (unit f)
-        (unit-pos f) (unit-pos f) (rw (zero-mul (unit f), add-zero (positivePart f x * positivePart f y * unit f),
-        add-zero (positivePart f x' * positivePart f y' * unit f)) (mul-le-mul-right (unit f) (mul-le-mul u v))))
+    (unit-pos f) (unit-pos f) (rw (
+      zero-mul (unit f),
+      add-zero (positivePart f x * positivePart f y * unit f),
+      add-zero (positivePart f x' * positivePart f y' * unit f),
+    ) (mul-le-mul-right (unit f) (mul-le-mul u v))))
 
 -- ---- squares: by the distance from zero, whatever the sign
 unfoldable pub keySize : Format → Float → ℕ
@@ -101,16 +117,20 @@ unfolding keySize
 square-key f x p =
     let z = square-parts (positivePart f x) (negativePart f x) (one-side (key f x) (mid f)) in
     mul-key f x x p p ∙ ap (λ (w : ℕ). roundKey f w (positivePart f x * negativePart f x + negativePart f
-        x * positivePart f x) (unit f)) (z .0) ∙ ap (λ (w : ℕ). roundKey f (keySize f x * keySize f x) w (unit f))
-        (z .1)
+    x * positivePart f x) (unit f)) (z .0) ∙ ap (λ (w : ℕ). roundKey f (keySize f x * keySize f x) w (unit f))
+    (z .1)
 
 pub square-key-mono : (f : Format) (x y : Float) → T (finiteNumber f x) → T (finiteNumber f y)
     → keySize f x ≤ keySize f y → key f (mul f x x) ≤ key f (mul f y y)
 square-key-mono f x y p q h =
     rw (square-key f x p, square-key f y q)
     (roundKey-mono f (keySize f x * keySize f x) 0 (unit f) (keySize f y * keySize f y) 0 (unit f) (unit-pos f)
-        (unit-pos f) (rw (zero-mul (unit f), add-zero (keySize f x * keySize f x * unit f), add-zero
-        (keySize f y * keySize f y * unit f)) (mul-le-mul-right (unit f) (mul-le-mul h h))))
+    (unit-pos f) (rw (
+      zero-mul (unit f),
+      add-zero (keySize f x * keySize f x * unit f),
+      add-zero
+          (keySize f y * keySize f y * unit f),
+    ) (mul-le-mul-right (unit f) (mul-le-mul h h))))
 
 -- ---- a quotient by y > 0
 pub div-key-mono : (f : Format) (x x' y : Float) → T (finiteNumber f x) → T (finiteNumber f x') → T (finiteNumber f y)
@@ -120,7 +140,7 @@ div-key-mono f x x' y p p' q h l =
     let w : 0 < positivePart f y = omega arith in
     rw (div-key f x y p q h, div-key f x' y p' q h)
     (roundKey-mono f (positivePart f x * unit f) (negativePart f x * unit f) (positivePart f y)
-        (positivePart f x' * unit f) (negativePart f x' * unit f) (positivePart f y) w w
+    (positivePart f x' * unit f) (negativePart f x' * unit f) (positivePart f y) w w
     (lift (positivePart f x) (negativePart f x') (positivePart f x') (negativePart f x) (unit f) (positivePart f y) e))
 
 -- x ≥ 0 over a greater divisor is no greater
@@ -133,11 +153,16 @@ div-key-anti f x y y' p q q' a h l =
     let w' : 0 < positivePart f y' = omega arith in
     rw (div-key f x y p q h, div-key f x y' p q' h', z, zero-mul (unit f))
     (roundKey-mono f (positivePart f x * unit f) 0 (positivePart f y') (positivePart f x * unit f) 0 (positivePart f y)
-        w' w
-    (rw (zero-mul (positivePart f y'), zero-mul (positivePart f y), add-zero
-        (positivePart f x * unit f * positivePart f y), add-zero (positivePart f x * unit f * positivePart f y'))
-        (mul-le-mul-left (positivePart f x * unit f) (let c : positivePart f y ≤ positivePart f y' = omega arith in
-        c))))
+    w' w
+    (rw (
+      zero-mul (positivePart f y'),
+      zero-mul (positivePart f y),
+      add-zero
+          (positivePart f x * unit f * positivePart f y),
+      add-zero (positivePart f x * unit f * positivePart f y'),
+    )
+    (mul-le-mul-left (positivePart f x * unit f) (let c : positivePart f y ≤ positivePart f y' = omega arith in
+    c))))
 
 -- ---- the same in the order of floats; a sign is told by the key of zero, mid
 module _ (f : Format) (x y : Float) (p : T (finiteNumber f x)) (q : T (finiteNumber f y)) (h : T (le x y)) where

@@ -38,14 +38,14 @@ pub hypot-bounded : (f : Format) (i j k : ℕ) (x y : Float) → k < overflow f 
 hypot-bounded f i j k x y K a b X Y =
     subst (λ (z : Float). Bounded f k z) (sym (hypot-is f x y (X .sure) (Y .sure)))
     (root-bounded f k (keySize f x * keySize f x + keySize f y * keySize f y) K
-        (squares-le (keySize f x) (keySize f y) i j k (keySize-le f i x X) (keySize-le f j y Y) a b))
+    (squares-le (keySize f x) (keySize f y) i j k (keySize-le f i x X) (keySize-le f j y Y) a b))
 
 pub sqrt-bounded : (f : Format) (i k : ℕ) (x : Float) → k < overflow f → i + low f ≤ k + k → Bounded f i x
     → mid f < key f x → Bounded f k (sqrt f x)
 sqrt-bounded f i k x K a X h =
     subst (λ (z : Float). Bounded f k z) (sym (sqrt-is f x (X .sure) h))
     (root-bounded f k (positivePart f x * unit f) K (le-trans (mul-le-mul-right (unit f)
-        (let c : positivePart f x ≤ 2 ^ i = omega arith in c)) (quot a)))
+    (let c : positivePart f x ≤ 2 ^ i = omega arith in c)) (quot a)))
   where
     quot : i + low f ≤ k + k → 2 ^ i * unit f ≤ 2 ^ k * 2 ^ k
     quot a = unfold unit in rw (← pow-add 2 i (low f), ← pow-add 2 k k) (pow-mono a)

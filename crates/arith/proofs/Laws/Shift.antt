@@ -61,14 +61,14 @@ module _ (f : Format) where
   -- x itself over the denominator of a sum
   self-key : (s : Bool) (m : ℕ) (e d : ℤ) → T (finiteNumber f (fin s m e))
       → key f (fin s m e) ≡ roundKey f (plus-part s (m * up e * down d) * unit f)
-          (less-part s (m * up e * down d) * unit f) (down e * down d)
+      (less-part s (m * up e * down d) * unit f) (down e * down d)
   self-key s m e d p =
       let x = fin s m e in
       let h = representable-of f x p in
       let c = cross f m e d (magnitude f x) (h .value .1) in
       sym (roundKey-self f x p) ∙ roundKey-same f (key f x) (mid f) 1 _ _ (down e * down d) (pow-pos 0)
-          (mul-pos (down-pos e) (down-pos d)) (by s (key f x) (magnitude f x) (key-is f x) (le-of-lt (h .small))
-          (m * up e * down d) c)
+      (mul-pos (down-pos e) (down-pos d)) (by s (key f x) (magnitude f x) (key-is f x) (le-of-lt (h .small))
+      (m * up e * down d) c)
     where
       D : ℕ
       D = down e * down d
@@ -82,8 +82,13 @@ module _ (f : Format) where
       → roundKey f (a * unit f) (b * unit f) c ≤ roundKey f (a' * unit f) (b' * unit f) c
   grows a b a' b' c C h =
       roundKey-mono f (a * unit f) (b * unit f) c (a' * unit f) (b' * unit f) c C C
-      (rw (sym (add-mul (a * unit f) (b' * unit f) c), sym (add-mul (a' * unit f) (b * unit f) c), sym
-          (add-mul a b' (unit f)), sym (add-mul a' b (unit f))) (mul-le-mul-right c (mul-le-mul-right (unit f) h)))
+      (rw (
+        sym (add-mul (a * unit f) (b' * unit f) c),
+        sym (add-mul (a' * unit f) (b * unit f) c),
+        sym
+            (add-mul a b' (unit f)),
+        sym (add-mul a' b (unit f)),
+      ) (mul-le-mul-right c (mul-le-mul-right (unit f) h)))
 
   pub add-value-ge : (x : Float) (t : Bool) (n : ℕ) (d : ℤ) → T (finiteNumber f x) → less-part t (n * up d) ≡ 0
       → key f x ≤ key f (add f x (fin t n d))
@@ -95,7 +100,7 @@ module _ (f : Format) where
       unfold add in
       rw (self-key s m e d p, sum-key s t A C (down e * down d) (mul-pos (down-pos e) (down-pos d)))
       (grows (plus-part s A) (less-part s A) (plus-part s A + plus-part t C) (less-part s A + less-part t C)
-          (down e * down d) (mul-pos (down-pos e) (down-pos d)) (omega (arith, none t (n * up d) (down e) z)))
+      (down e * down d) (mul-pos (down-pos e) (down-pos d)) (omega (arith, none t (n * up d) (down e) z)))
     where
       none : (t : Bool) (a c : ℕ) → less-part t a ≡ 0 → less-part t (a * c) ≡ 0
       none false a c z = refl
@@ -111,7 +116,7 @@ module _ (f : Format) where
       unfold sub add neg in
       rw (self-key s m e d p, sum-key s (not t) A C (down e * down d) (mul-pos (down-pos e) (down-pos d)))
       (grows (plus-part s A + plus-part (not t) C) (less-part s A + less-part (not t) C) (plus-part s A) (less-part s A)
-          (down e * down d) (mul-pos (down-pos e) (down-pos d)) (omega (arith, none t (n * up d) (down e) z)))
+      (down e * down d) (mul-pos (down-pos e) (down-pos d)) (omega (arith, none t (n * up d) (down e) z)))
     where
       none : (t : Bool) (a c : ℕ) → less-part t a ≡ 0 → plus-part (not t) (a * c) ≡ 0
       none false a c z = refl

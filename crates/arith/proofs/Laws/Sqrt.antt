@@ -55,7 +55,7 @@ negative-key : (f : Format) (m : ℕ) (e : ℤ) → T (finiteNumber f (fin true 
 negative-key f m e h =
     let x = fin true (suc m) e in
     lt-of-le-of-lt (le-of-eq (key-is f x)) (go (mid f) (magnitude f x) (positive-magnitude f m e h)
-        (representable-of f x h .small))
+    (representable-of f x h .small))
   where
     go : (M t : ℕ) → 0 < t → t < M → M - t < M
     go M t a b = omega arith
@@ -65,8 +65,12 @@ pub sqrt-key : (f : Format) (x : Float) → T (finiteNumber f x) → mid f ≤ k
     (number f (sqrt f x))
 sqrt-key f nan h l = absurd (and-r (fits f nan) false h)
 sqrt-key f (inf s) h l = absurd (and-r (fits f (inf s)) false h)
-sqrt-key f (fin false m e) h l = (ap (λ (z : Float). key f z) (sqrt-root f m e), key-is f (fin false m e), subst
-    (λ (z : Float). T (number f z)) (sym (sqrt-root f m e)) (root-number f (magnitude f (fin false m e) * unit f)))
+sqrt-key f (fin false m e) h l = (
+  ap (λ (z : Float). key f z) (sqrt-root f m e),
+  key-is f (fin false m e),
+  subst
+      (λ (z : Float). T (number f z)) (sym (sqrt-root f m e)) (root-number f (magnitude f (fin false m e) * unit f)),
+)
 sqrt-key f (fin true zero e) h l =
     let x = fin true 0 e in
     let t : magnitude f x ≡ 0 = zero-magnitude f true e in
@@ -121,7 +125,7 @@ sqrt-mono f x y p q h l = go (kind f x p) (kind f y q)
     go (infinite s e) (usual c d) =
         absurd (not-le-of-lt (representable-of f y d .small)
         (within (mid f) (magnitude f y) (key f x) (key f y) (ap (λ (z : Float). key f z) (not-minus-inf f x s e X)
-            ∙ inf-key f) (sqrt-key f y d Y .1) k))
+        ∙ inf-key f) (sqrt-key f y d Y .1) k))
       where
         within : (M t a b : ℕ) → a ≡ M + M → b ≡ M + t → a ≤ b → M ≤ t
         within M t a b e f h = omega arith
@@ -131,8 +135,8 @@ sqrt-mono f x y p q h l = go (kind f x p) (kind f y q)
         key→le f (sqrt f x) (sqrt f y) (u .2) (v .2)
         (le-trans (le-of-eq (u .0))
         (le-trans (root-mono f (magnitude f x * unit f) (magnitude f y * unit f)
-            (mul-le-mul-right (unit f) (less (mid f) (magnitude f x) (magnitude f y) (key f x) (key f y) (u .1) (v .1)
-            k)))
+        (mul-le-mul-right (unit f) (less (mid f) (magnitude f x) (magnitude f y) (key f x) (key f y) (u .1) (v .1)
+        k)))
         (le-of-eq (sym (v .0)))))
       where
         less : (M s t a b : ℕ) → a ≡ M + s → b ≡ M + t → a ≤ b → s ≤ t

@@ -40,19 +40,19 @@ bits-val b E m e M n l = elim (decide (2 ^ 52) m) [
       let x : b % 2 ^ 63 / 2 ^ 52 ≡ suc E = omega arith in
       let t : 2 ^ 52 + b % 2 ^ 52 ≡ m = omega arith in
       subst (λ (z : ℕ). HasValue (ofFields binary64 (leb (2 ^ 63) b) z (b % 2 ^ 52)) (leb (2 ^ 63) b) (m * 2 ^ E)
-          (2 ^ 1074)) (sym x)
+      (2 ^ 1074)) (sym x)
       (subst (λ (z : ℕ). HasValue (ofFields binary64 (leb (2 ^ 63) b) (suc E) (b % 2 ^ 52)) (leb (2 ^ 63) b) (z * 2 ^ E)
-          (2 ^ 1074)) t (normal-val (leb (2 ^ 63) b) E (b % 2 ^ 52) l))
+      (2 ^ 1074)) t (normal-val (leb (2 ^ 63) b) E (b % 2 ^ 52) l))
   | inr h ↦
       let z : E ≡ 0 = zero-of E m n h in
       let x : b % 2 ^ 63 / 2 ^ 52 ≡ 0 = omega arith in
       let t : b % 2 ^ 52 ≡ m = omega arith in
       subst (λ (z : ℕ). HasValue (ofFields binary64 (leb (2 ^ 63) b) z (b % 2 ^ 52)) (leb (2 ^ 63) b) (m * 2 ^ E)
-          (2 ^ 1074)) (sym x)
+      (2 ^ 1074)) (sym x)
       (subst (λ (y : ℕ). HasValue (ofFields binary64 (leb (2 ^ 63) b) 0 (b % 2 ^ 52)) (leb (2 ^ 63) b) (m * 2 ^ y)
-          (2 ^ 1074)) (sym z)
+      (2 ^ 1074)) (sym z)
       (subst (λ (y : ℕ). HasValue (ofFields binary64 (leb (2 ^ 63) b) 0 (b % 2 ^ 52)) (leb (2 ^ 63) b) (y * 2 ^ 0)
-          (2 ^ 1074)) t (small-val (leb (2 ^ 63) b) (b % 2 ^ 52))))
+      (2 ^ 1074)) t (small-val (leb (2 ^ 63) b) (b % 2 ^ 52))))
 ]
   where
     zero-of : (E m : ℕ) → (0 < E → 2 ^ 52 ≤ m) → m < 2 ^ 52 → E ≡ 0
@@ -69,7 +69,7 @@ toBits-val nan n h = absurd h
 toBits-val (inf s) n h = absurd h
 toBits-val (fin s m e) n h =
     ap (λ (z : ℕ). cond s (2 ^ 63) 0 + (size z - 53) * 2 ^ 52 + z / 2 ^ (size z - 53))
-        (ap (λ (z : ℕ). z / down e) (h .1) ∙ mul-div-cancel n (down-pos e))
+    (ap (λ (z : ℕ). z / down e) (h .1) ∙ mul-div-cancel n (down-pos e))
     ∙ ap (λ (t : Bool). cond t (2 ^ 63) 0 + (size n - 53) * 2 ^ 52 + n / 2 ^ (size n - 53)) (h .0)
     ∙ plain ((size n - 53) * 2 ^ 52) (n / 2 ^ (size n - 53))
   where
@@ -94,7 +94,7 @@ pat-small K h =
 pat-top : (E : ℕ) → bitsOf (2 ^ 53 * 2 ^ E) ≡ E * 2 ^ 52 + 2 ^ 53
 pat-top E =
     ap bitsOf (sym (pow-add 2 53 E) ∙ ap (λ (i : ℕ). 2 ^ i) (let w : 53 + E ≡ 52 + suc E = omega arith in w) ∙ pow-add 2
-        52 (suc E))
+    52 (suc E))
     ∙ pat-normal (2 ^ 52) (suc E) (le-refl (2 ^ 52)) (lit< tt)
     ∙ again E
   where
@@ -128,11 +128,11 @@ out-of-range K E h n l = elim (decide 2046 E) [
   | inl p ↦
       let q = n (omega arith) in
       le-trans (pow-mono (let w : 2098 ≤ 52 + E = omega arith in w))
-          (le-trans (le-of-eq (pow-add 2 52 E)) (mul-le-mul-right (2 ^ E) q))
+      (le-trans (le-of-eq (pow-add 2 52 E)) (mul-le-mul-right (2 ^ E) q))
   | inr p ↦
       let k : 2 ^ 53 ≤ K = omega arith in
       le-trans (pow-mono (let w : 2098 ≤ 53 + E = omega arith in w))
-          (le-trans (le-of-eq (pow-add 2 53 E)) (mul-le-mul-right (2 ^ E) k))
+      (le-trans (le-of-eq (pow-add 2 53 E)) (mul-le-mul-right (2 ^ E) k))
 ]
 
 units-in : (K E : ℕ) → K * 2 ^ E < 2 ^ 2098 → units binary64 false K E ≡ odd 54 false K E 1074
@@ -176,8 +176,24 @@ pub record Split (p : ℕ) : Type 0 where
 
 pub split : (p : ℕ) → p < 2047 * 2 ^ 52 → Split p
 split p h = elim (decide (2 ^ 52) p) [
-  | inl l ↦ record { E = p / 2 ^ 52 - 1; m = p % 2 ^ 52 + 2 ^ 52; whole = omega arith; short = omega arith; normal =
-      λ x. omega arith; range = omega arith; more = λ x. omega arith }
-  | inr l ↦ record { E = 0; m = p; whole = omega arith; short = omega arith; normal = λ x. omega arith; range = omega
-      arith; more = λ x. omega arith }
+  | inl l ↦ record {
+    E = p / 2 ^ 52 - 1;
+    m = p % 2 ^ 52 + 2 ^ 52;
+    whole = omega arith;
+    short = omega arith;
+    normal =
+        λ x. omega arith;
+    range = omega arith;
+    more = λ x. omega arith;
+  }
+  | inr l ↦ record {
+    E = 0;
+    m = p;
+    whole = omega arith;
+    short = omega arith;
+    normal = λ x. omega arith;
+    range = omega
+        arith;
+    more = λ x. omega arith;
+  }
 ]

@@ -44,15 +44,20 @@ root-step n E lo hi =
     let w = 2 ^ (E + 1) in
     let a : sq (2 ^ 52 * w) ≤ n = subst (λ (z : ℕ). sq z ≤ n) (sym (twice-step (2 ^ 52) E)) lo in
     let o : sq ((2 ^ 53 - 1) * w) < 4 * n = lt-of-lt-of-le (sq-times-lt (2 ^ 53 - 1) (2 ^ 53) w (pow-pos (E + 1))
-        (omega arith)) (le-trans (le-of-eq (sym (four-sq (2 ^ 52) w))) (mul-le-mul-left 4 a)) in
-    let near : NearestTo n (2 ^ 52 - 1) w = record { over = le-of-lt o; under = hi; over-even = λ x. refl; under-even =
-        λ x. refl } in
+    (omega arith)) (le-trans (le-of-eq (sym (four-sq (2 ^ 52) w))) (mul-le-mul-left 4 a)) in
+    let near : NearestTo n (2 ^ 52 - 1) w = record {
+      over = le-of-lt o;
+      under = hi;
+      over-even = λ x. refl;
+      under-even =
+          λ x. refl;
+    } in
     let b : n < sq (2 ^ 53 * w) = quarter n (sq (2 ^ 53 * w)) (lt-of-le-of-lt hi
-        (lt-of-lt-of-le (sq-times-lt (2 ^ 53 + 1) (2 ^ 54) w (pow-pos (E + 1)) (omega arith))
-        (le-of-eq (sym (four-sq (2 ^ 53) w))))) in
+    (lt-of-lt-of-le (sq-times-lt (2 ^ 53 + 1) (2 ^ 54) w (pow-pos (E + 1)) (omega arith))
+    (le-of-eq (sym (four-sq (2 ^ 53) w))))) in
     subst (λ (p : ℕ). RootIs n p) (let z : (E + 1) * 2 ^ 52 + 2 ^ 52 ≡ E * 2 ^ 52 + 2 ^ 53 = omega arith in z)
     (from-units n (2 ^ 52) (E + 1) (omega arith) (λ x. le-refl (2 ^ 52))
-        (root-at n (2 ^ 52 - 1) (E + 1) b (λ x. a) near))
+    (root-at n (2 ^ 52 - 1) (E + 1) b (λ x. a) near))
 
 pub root-near : (n j E : ℕ) → j < 2 ^ 53 → (0 < E → 2 ^ 52 ≤ j + 1) → (0 < E → sq (2 ^ 52 * 2 ^ E) ≤ n)
     → NearestTo n j (2 ^ E) → RootIs n (E * 2 ^ 52 + (j + 1))
@@ -61,13 +66,13 @@ root-near n j E J K L near = elim (decide (sq (2 ^ 53 * 2 ^ E)) n) [
   | inl l ↦
       let u = 2 ^ E in
       let b : sq (2 ^ 54 * u) ≤ sq ((2 * j + 3) * u) = le-trans (le-trans (le-of-eq (sym (four-sq (2 ^ 53) u)))
-          (mul-le-mul-left 4 l)) (near .under) in
+      (mul-le-mul-left 4 l)) (near .under) in
       let c : 2 ^ 54 ≤ 2 * j + 3 = elim (decide (2 ^ 54) (2 * j + 3))
-          [ inl x ↦ x | inr x ↦ absurd (not-le-of-lt (sq-times-lt (2 * j + 3) (2 ^ 54) u (pow-pos E) x) b) ] in
+      [ inl x ↦ x | inr x ↦ absurd (not-le-of-lt (sq-times-lt (2 * j + 3) (2 ^ 54) u (pow-pos E) x) b) ] in
       let e : 2 ^ 53 ≡ j + 1 = omega arith in
       subst (λ (p : ℕ). RootIs n (E * 2 ^ 52 + p)) e
       (root-step n E l (le-trans (near .under) (le-trans (sq-times-le (2 * j + 3) (2 * (2 ^ 53 + 1)) u (omega arith))
-          (le-of-eq (ap sq (sym (twice-step (2 ^ 53 + 1) E)))))))
+      (le-of-eq (ap sq (sym (twice-step (2 ^ 53 + 1) E)))))))
 ]
 
 -- ---- z and a bit: 4 n is z squares of u, and less than one more; t says whether it is more at all
@@ -83,54 +88,54 @@ odd-even t k e h = omega arith
 -- M and M' are the two middles, in steps of u
 module _ (n z t u k M M' j w : ℕ) (br : Bracket n z t u) (U : 0 < u) (p : M * u ≡ (2 * j + 1) * w)
     (q : M' * u ≡ (2 * j + 3) * w) (par : k % 2 ≡ j % 2) (ua : RoundsUpAt z t k M) (da : RoundsDownAt z t (k + 1) M')
-    where
-  SU : 0 < sq u
-  SU = mul-pos U U
+  where
+    SU : 0 < sq u
+    SU = mul-pos U U
 
-  at-lo : sq ((2 * j + 1) * w) ≡ sq M * sq u
-  at-lo = ap sq (sym p) ∙ sq-times M u
+    at-lo : sq ((2 * j + 1) * w) ≡ sq M * sq u
+    at-lo = ap sq (sym p) ∙ sq-times M u
 
-  at-hi : sq ((2 * j + 3) * w) ≡ sq M' * sq u
-  at-hi = ap sq (sym q) ∙ sq-times M' u
+    at-hi : sq ((2 * j + 3) * w) ≡ sq M' * sq u
+    at-hi = ap sq (sym q) ∙ sq-times M' u
 
-  lo-le : sq M * sq u ≤ 4 * n
-  lo-le = le-trans (mul-le-mul-right (sq u) (let x = ua .0 in let y : sq M ≤ z = omega arith in y)) (br .low)
+    lo-le : sq M * sq u ≤ 4 * n
+    lo-le = le-trans (mul-le-mul-right (sq u) (let x = ua .0 in let y : sq M ≤ z = omega arith in y)) (br .low)
 
-  lo-tie : sq M * sq u ≡ 4 * n → j % 2 ≡ 1
-  lo-tie e = elim (decide (t + k % 2) 0) [
-    | inl x ↦ lt-not-eq (sq M * sq u) (4 * n) (lt-of-lt-of-le (mul-lt-mul-of-pos-right (ua .1 (omega arith)) SU)
-        (br .low)) e
-    | inr x ↦ elim (decide t 0) [
-      | inl y ↦ sym par ∙ odd-even t k (omega arith) x
-      | inr y ↦ lt-not-eq (sq M * sq u) (4 * n) (lt-of-le-of-lt (mul-le-mul-right (sq u)
-          (let x' = ua .0 in let y' : sq M ≤ z = omega arith in y')) (br .more y)) e
+    lo-tie : sq M * sq u ≡ 4 * n → j % 2 ≡ 1
+    lo-tie e = elim (decide (t + k % 2) 0) [
+      | inl x ↦ lt-not-eq (sq M * sq u) (4 * n) (lt-of-lt-of-le (mul-lt-mul-of-pos-right (ua .1 (omega arith)) SU)
+          (br .low)) e
+      | inr x ↦ elim (decide t 0) [
+        | inl y ↦ sym par ∙ odd-even t k (omega arith) x
+        | inr y ↦ lt-not-eq (sq M * sq u) (4 * n) (lt-of-le-of-lt (mul-le-mul-right (sq u)
+            (let x' = ua .0 in let y' : sq M ≤ z = omega arith in y')) (br .more y)) e
+      ]
     ]
-  ]
 
-  strict : 0 < t + (k + 1) % 2 → 4 * n < sq M' * sq u
-  strict h = lt-of-lt-of-le (br .high) (mul-le-mul-right (sq u) (let x = da .1 h in let y : z + 1 ≤ sq M' = omega
-      arith in y))
+    strict : 0 < t + (k + 1) % 2 → 4 * n < sq M' * sq u
+    strict h = lt-of-lt-of-le (br .high) (mul-le-mul-right (sq u) (let x = da .1 h in let y : z + 1 ≤ sq M' = omega
+        arith in y))
 
-  hi-le : 4 * n ≤ sq M' * sq u
-  hi-le = elim (decide t 0) [
-    | inl y ↦ le-trans (le-of-eq (br .exact (omega arith))) (mul-le-mul-right (sq u)
-        (let x = da .0 in let w : z ≤ sq M' = omega arith in w))
-    | inr y ↦ le-of-lt (strict (omega arith))
-  ]
+    hi-le : 4 * n ≤ sq M' * sq u
+    hi-le = elim (decide t 0) [
+      | inl y ↦ le-trans (le-of-eq (br .exact (omega arith))) (mul-le-mul-right (sq u)
+          (let x = da .0 in let w : z ≤ sq M' = omega arith in w))
+      | inr y ↦ le-of-lt (strict (omega arith))
+    ]
 
-  hi-tie : 4 * n ≡ sq M' * sq u → j % 2 ≡ 1
-  hi-tie e = elim (decide (t + (k + 1) % 2) 0) [
-    | inl x ↦ omega arith
-    | inr x ↦ lt-not-eq (4 * n) (sq M' * sq u) (strict x) e
-  ]
+    hi-tie : 4 * n ≡ sq M' * sq u → j % 2 ≡ 1
+    hi-tie e = elim (decide (t + (k + 1) % 2) 0) [
+      | inl x ↦ omega arith
+      | inr x ↦ lt-not-eq (4 * n) (sq M' * sq u) (strict x) e
+    ]
 
-  pub near-marks : NearestTo n j w
-  near-marks = record {
-    over = le-trans (le-of-eq at-lo) lo-le;
-    under = le-trans hi-le (le-of-eq (sym at-hi));
-    over-even = λ e. lo-tie (sym at-lo ∙ e);
-    under-even = λ e. hi-tie (e ∙ at-hi);
-  }
+    pub near-marks : NearestTo n j w
+    near-marks = record {
+      over = le-trans (le-of-eq at-lo) lo-le;
+      under = le-trans hi-le (le-of-eq (sym at-hi));
+      over-even = λ e. lo-tie (sym at-lo ∙ e);
+      under-even = λ e. hi-tie (e ∙ at-hi);
+    }
 
 -- ---- the candidate that the search finds
 module _ (n z t E m : ℕ) (br : Bracket n z t (2 ^ E)) (mp : 0 < m) (ml : m < 2 ^ 53) (mn : 0 < E → 2 ^ 52 ≤ m)
@@ -143,8 +148,8 @@ module _ (n z t E m : ℕ) (br : Bracket n z t (2 ^ E)) (mp : 0 < m) (ml : m < 2
   below j h l up' down' =
       root-near n j E (omega arith) (λ p. le-trans (mn p) h) least
       (near-marks n z t (2 ^ E) j (2 * j + 1) (2 * (j + 1) + 1) j (2 ^ E) br (pow-pos E) refl
-          (ap (λ (x : ℕ). x * 2 ^ E) (let e : 2 * (j + 1) + 1 ≡ 2 * j + 3 = omega arith in e)) refl
-          (up' .low (omega arith)) (down' .low l))
+      (ap (λ (x : ℕ). x * 2 ^ E) (let e : 2 * (j + 1) + 1 ≡ 2 * j + 3 = omega arith in e)) refl
+      (up' .low (omega arith)) (down' .low l))
 
   -- past 2^53 the step doubles: i is the candidate less 2^52 + 1
   above : (i : ℕ) → 2 ^ 52 ≤ i → i + 1 < 2 ^ 53 → RoundsUp z t (i + 2 ^ 52) → RoundsDown z t (i + 2 ^ 52 + 1)
@@ -152,18 +157,18 @@ module _ (n z t E m : ℕ) (br : Bracket n z t (2 ^ E)) (mp : 0 < m) (ml : m < 2
   above i h l up' down' =
       let near : NearestTo n i (2 ^ (E + 1)) =
       near-marks n z t (2 ^ E) (i + 2 ^ 52) (4 * (i + 2 ^ 52) + 2 - 2 ^ 54) (4 * (i + 2 ^ 52 + 1) + 2 - 2 ^ 54) i
-          (2 ^ (E + 1)) br (pow-pos E)
+      (2 ^ (E + 1)) br (pow-pos E)
       (ap (λ (x : ℕ). x * 2 ^ E) (let e : 4 * (i + 2 ^ 52) + 2 - 2 ^ 54 ≡ 2 * (2 * i + 1) = omega arith in e) ∙ sym
-          (twice-step (2 * i + 1) E))
+      (twice-step (2 * i + 1) E))
       (ap (λ (x : ℕ). x * 2 ^ E) (let e : 4 * (i + 2 ^ 52 + 1) + 2 - 2 ^ 54 ≡ 2 * (2 * i + 3) = omega arith in e) ∙ sym
-          (twice-step (2 * i + 3) E))
+      (twice-step (2 * i + 3) E))
       (omega arith) (up' .high (omega arith)) (down' .high (omega arith)) in
       let w = 2 ^ (E + 1) in
       let lo : sq (2 ^ 52 * w) ≤ n = quarter-le n (sq (2 ^ 52 * w))
-          (le-trans (le-of-eq (four-sq (2 ^ 52) w)) (le-trans (sq-times-le (2 ^ 53) (2 * i + 1) w (omega arith))
-          (near .over))) in
+      (le-trans (le-of-eq (four-sq (2 ^ 52) w)) (le-trans (sq-times-le (2 ^ 53) (2 * i + 1) w (omega arith))
+      (near .over))) in
       subst (λ (p : ℕ). RootIs n p) (let e : (E + 1) * 2 ^ 52 + (i + 1) ≡ E * 2 ^ 52 + (i + 2 ^ 52 + 1) = omega arith in
-          e)
+      e)
       (root-near n i (E + 1) (omega arith) (λ p. omega arith) (λ p. lo) near)
 
   -- at 2^53
@@ -176,12 +181,16 @@ module _ (n z t E m : ℕ) (br : Bracket n z t (2 ^ E)) (mp : 0 < m) (ml : m < 2
         let ua : RoundsUpAt z t (2 ^ 53 - 1) (2 * (2 ^ 53 - 1) + 1) = up' .low (omega arith) in
         let u = 2 ^ E in
         let y : 4 * n < sq ((2 * (2 ^ 53 - 1) + 3) * u) = lt-of-lt-of-le (times-four n (sq (2 ^ 53 * u)) l)
-            (le-trans (le-of-eq (four-sq (2 ^ 53) u)) (sq-times-le (2 * 2 ^ 53) (2 * (2 ^ 53 - 1) + 3) u
-            (omega arith))) in
+        (le-trans (le-of-eq (four-sq (2 ^ 53) u)) (sq-times-le (2 * 2 ^ 53) (2 * (2 ^ 53 - 1) + 3) u
+        (omega arith))) in
         let o : sq ((2 * (2 ^ 53 - 1) + 1) * u) ≤ 4 * n = le-trans (le-of-eq (sq-times (2 * (2 ^ 53 - 1) + 1) u))
-            (le-trans (mul-le-mul-right (sq u) (low-of ua)) (br .low)) in
-        let near : NearestTo n (2 ^ 53 - 1) u = record { over = o; under = le-of-lt y; over-even = λ x. refl;
-            under-even = λ x. refl } in
+        (le-trans (mul-le-mul-right (sq u) (low-of ua)) (br .low)) in
+        let near : NearestTo n (2 ^ 53 - 1) u = record {
+          over = o;
+          under = le-of-lt y;
+          over-even = λ x. refl;
+          under-even = λ x. refl;
+        } in
         root-near n (2 ^ 53 - 1) E (omega arith) (λ p. omega arith) least near
   ]
     where
@@ -206,17 +215,17 @@ module _ (n z t E m : ℕ) (br : Bracket n z t (2 ^ E)) (mp : 0 < m) (ml : m < 2
     | inr x ↦
         let e : r - 1 + 1 ≡ r = pred r (omega arith) in
         subst (λ (y : ℕ). RootIs n (E * 2 ^ 52 + y)) e (below (r - 1) (omega arith) (omega arith) up'
-            (subst (λ (y : ℕ). RoundsDown z t y) (sym e) down'))
+        (subst (λ (y : ℕ). RoundsDown z t y) (sym e) down'))
     | inl x ↦ elim (decide r (2 ^ 53)) [
       | inl y ↦
           let e : r ≡ 2 ^ 53 = omega arith in
           subst (λ (y : ℕ). RootIs n (E * 2 ^ 52 + y)) (sym e) (edge (subst (λ (y : ℕ). RoundsUp z t (y - 1)) e up')
-              (subst (λ (y : ℕ). RoundsDown z t y) e down'))
+          (subst (λ (y : ℕ). RoundsDown z t y) e down'))
       | inr y ↦
           let e : r - 1 - 2 ^ 52 + 2 ^ 52 + 1 ≡ r = omega arith in
           let f : r - 1 - 2 ^ 52 + 2 ^ 52 ≡ r - 1 = omega arith in
           subst (λ (y : ℕ). RootIs n (E * 2 ^ 52 + y)) e (above (r - 1 - 2 ^ 52) (omega arith) (omega arith)
-              (subst (λ (y : ℕ). RoundsUp z t y) (sym f) up') (subst (λ (y : ℕ). RoundsDown z t y) (sym e) down'))
+          (subst (λ (y : ℕ). RoundsUp z t y) (sym f) up') (subst (λ (y : ℕ). RoundsDown z t y) (sym e) down'))
     ]
   ]
 

@@ -48,12 +48,12 @@ module _ (n j u h : ℕ) (U : 0 < u) (lo : sq (h * u) ≤ n) (hi : n < sq ((h + 
 dropped : (n E : ℕ) → n < sq (2 ^ 53 * 2 ^ E) → (0 < E → sq (2 ^ 52 * 2 ^ E) ≤ n) → suc (size n) / 2 - 53 ≡ E
 dropped n E hi lo =
     let a : size n ≤ 53 + E + (53 + E) = size-le n (53 + E + (53 + E))
-        (lt-of-lt-of-le hi (le-of-eq (ap sq (sym (pow-add 2 53 E)) ∙ sq-pow (53 + E)))) in
+    (lt-of-lt-of-le hi (le-of-eq (ap sq (sym (pow-add 2 53 E)) ∙ sq-pow (53 + E)))) in
     elim (decide E 0) [
       | inl z ↦ omega arith
       | inr p ↦
           let b : 52 + E + (52 + E) < size n = size-ge n (52 + E + (52 + E))
-              (le-trans (le-of-eq (sym (sq-pow (52 + E)) ∙ ap sq (pow-add 2 52 E))) (lo p)) in
+          (le-trans (le-of-eq (sym (sq-pow (52 + E)) ∙ ap sq (pow-add 2 52 E))) (lo p)) in
           omega arith
     ]
 
@@ -63,18 +63,21 @@ root-by : (n j E k : ℕ) → k ≡ E → n < sq (2 ^ 53 * 2 ^ E) → NearestTo 
 root-by n j E k e hi near =
     let u = 2 ^ E in
     let h = rootDigits 53 u n 0 in
-    let w : DigitsWithin u n h 1 = root-digits 53 u n 0 (subst (λ (x : ℕ). x ≤ n)
-        (sym (square (0 * u) ∙ ap sq (zero-mul u))) zero-le, lt-of-lt-of-le hi
-        (le-of-eq (sym (square ((0 + 2 ^ 53) * u))))) in
+    let w : DigitsWithin u n h 1 = root-digits 53 u n 0 (
+      subst (λ (x : ℕ). x ≤ n)
+          (sym (square (0 * u) ∙ ap sq (zero-mul u))) zero-le,
+      lt-of-lt-of-le hi
+          (le-of-eq (sym (square ((0 + 2 ^ 53) * u)))),
+    ) in
     let lo' : sq (h * u) ≤ n = le-trans (le-of-eq (sym (square (h * u)))) (w .0) in
     let hi' : n < sq ((h + 1) * u) = lt-of-lt-of-le (w .1) (le-of-eq (square ((h + 1) * u))) in
     let c : Compared (compare (4 * n) (((2 * h + 1) * u) ^ 2)) (4 * n) (sq ((2 * h + 1) * u)) =
     subst (λ (x : ℕ). Compared (compare (4 * n) (((2 * h + 1) * u) ^ 2)) (4 * n) x) (square ((2 * h + 1) * u))
-        (compared (4 * n) (((2 * h + 1) * u) ^ 2)) in
+    (compared (4 * n) (((2 * h + 1) * u) ^ 2)) in
     ap (λ (z : ℕ). units binary64 false (nearest (rootDigits 53 (2 ^ z) n 0)
-        (compare (4 * n) (((2 * rootDigits 53 (2 ^ z) n 0 + 1) * 2 ^ z) ^ 2))) z) e
+    (compare (4 * n) (((2 * rootDigits 53 (2 ^ z) n 0 + 1) * 2 ^ z) ^ 2))) z) e
     ∙ ap (λ (z : ℕ). units binary64 false z E) (unique n j u h (pow-pos E) lo' hi' near
-        (compare (4 * n) (((2 * h + 1) * u) ^ 2)) c)
+    (compare (4 * n) (((2 * h + 1) * u) ^ 2)) c)
 
 pub root-at : (n j E : ℕ) → n < sq (2 ^ 53 * 2 ^ E) → (0 < E → sq (2 ^ 52 * 2 ^ E) ≤ n) → NearestTo n j (2 ^ E)
     → root binary64 n ≡ units binary64 false (j + 1) E

@@ -34,8 +34,11 @@ some : (p : ℕ) → 0 < p → 0 < significandOf p
 some p h = omega arith
 
 pub swap : (p q r : ℕ) → HypotIs p q r → HypotIs q p r
-swap p q r h = record { fine = h .fine; is = ap (λ (x : ℕ). root binary64 x)
-    (add-comm (sq (ticksOf q)) (sq (ticksOf p))) ∙ h .is }
+swap p q r h = record {
+  fine = h .fine;
+  is = ap (λ (x : ℕ). root binary64 x)
+      (add-comm (sq (ticksOf q)) (sq (ticksOf p))) ∙ h .is;
+}
 
 pub infinity : ofBits binary64 (2047 * 2 ^ 52) ≡ inf false
 unfolding ofBits
@@ -52,9 +55,12 @@ unfolding ticksOf root ofBits
 at-zero = refl
 
 pub nothing : (p q : ℕ) → p ≡ 0 → q ≤ p → HypotIs p q 0
-nothing p q e l = let f : q ≡ 0 = omega arith in record { fine = zero-le; is = ap
-    (λ (x : ℕ). root binary64 (sq (ticksOf x) + sq (ticksOf q))) e ∙ ap
-    (λ (x : ℕ). root binary64 (sq (ticksOf 0) + sq (ticksOf x))) f ∙ at-zero }
+nothing p q e l = let f : q ≡ 0 = omega arith in record {
+  fine = zero-le;
+  is = ap
+      (λ (x : ℕ). root binary64 (sq (ticksOf x) + sq (ticksOf q))) e ∙ ap
+      (λ (x : ℕ). root binary64 (sq (ticksOf 0) + sq (ticksOf x))) f ∙ at-zero;
+}
 
 -- ---- p is d binades above q
 module _ (p q d : ℕ) (gap : exponentOf p ≡ d + exponentOf q) where
@@ -101,14 +107,14 @@ module _ (p q d : ℕ) (gap : exponentOf p ≡ d + exponentOf q) where
       subst (λ (x : ℕ). RootIs n (E * 2 ^ 52 + x)) e
       (root-near n (r - 1) E (omega arith) (λ x. omega arith) lo
       (near-inside n z (r - 1) (2 ^ E) (pow-pos E) (inside-lo z (r - 1) i') (inside-hi z (r - 1) i') (b .low)
-          (b .high)))
+      (b .high)))
 
   -- d of 27 or more: p itself
   small : 27 ≤ d → sq (2 * significandOf q) / 2 ^ (2 * d) < 2 ^ 54
   small h =
       div-lt-iff-lt-mul (pow-pos (2 * d)) .1
       (lt-of-lt-of-le (squares (2 * significandOf q) (let x = short q in let y : 2 * significandOf q < 2 ^ 54 = omega
-          arith in y)) (mul-le-mul-left (2 ^ 54) (pow-mono {i = 54} {j = 2 * d} (omega arith))))
+      arith in y)) (mul-le-mul-left (2 ^ 54) (pow-mono {i = 54} {j = 2 * d} (omega arith))))
     where
       squares : (a : ℕ) → a < 2 ^ 54 → sq a < 2 ^ 54 * 2 ^ 54
       squares a l = lt-of-le-of-lt (mul-le-mul-left a (le-of-lt l)) (mul-lt-mul-of-pos-right l (pow-pos 54))
@@ -123,10 +129,10 @@ module _ (p q d : ℕ) (gap : exponentOf p ≡ d + exponentOf q) where
       within p q p
       (subst (λ (x : ℕ). RootIs n x) (sym (whole p))
       (inside (sq (2 * significandOf p) + sq (2 * significandOf q) / 2 ^ (2 * d)) t (exponentOf p) (significandOf p)
-          (at t (λ x. x) (λ x. x)) (far-inside (significandOf p) (sq (2 * significandOf q) / 2 ^ (2 * d)) k (small h)) k
-          (le-of-lt (short p))
+      (at t (λ x. x) (λ x. x)) (far-inside (significandOf p) (sq (2 * significandOf q) / 2 ^ (2 * d)) k (small h)) k
+      (le-of-lt (short p))
       (λ x. le-trans (mul-le-mul (mul-le-mul-right (2 ^ exponentOf p) k) (mul-le-mul-right (2 ^ exponentOf p) k)) big)))
-          l
+      l
 
   -- the root lies above 2^52 steps
   above-least : (z t E r : ℕ) → Bracket n z t (2 ^ E) → NearestHalf z r → 2 ^ 52 < r → sq (2 ^ 52 * 2 ^ E) ≤ n
@@ -134,7 +140,7 @@ module _ (p q d : ℕ) (gap : exponentOf p ≡ d + exponentOf q) where
       let o = i .over in
       let c : sq (2 * (r - 1) + 1) ≤ z = inside-lo' z r (omega arith) i in
       let k : 2 ^ 106 ≤ sq (2 * (r - 1) + 1) = mul-le-mul {n₁ = 2 ^ 53} {m₁ = 2 ^ 53}
-          (let x : 2 ^ 53 ≤ 2 * (r - 1) + 1 = omega arith in x) (let x : 2 ^ 53 ≤ 2 * (r - 1) + 1 = omega arith in x) in
+      (let x : 2 ^ 53 ≤ 2 * (r - 1) + 1 = omega arith in x) (let x : 2 ^ 53 ≤ 2 * (r - 1) + 1 = omega arith in x) in
       quarter n (2 ^ E) (le-trans (mul-le-mul-right (sq (2 ^ E)) (le-trans k c)) (b .low))
     where
       inside-lo' : (z r : ℕ) → 0 < r → NearestHalf z r → sq (2 * (r - 1) + 1) ≤ z
@@ -163,8 +169,8 @@ module _ (p q d : ℕ) (gap : exponentOf p ≡ d + exponentOf q) where
       let t = sq (significandOf q) % 2 ^ (2 * d) in
       near-law (sq (significandOf p) + sq (significandOf q) / 2 ^ (2 * d)) t (exponentOf p + 1) r
       (bracket n (significandOf p) (significandOf q) (2 ^ (2 * d)) (4 * sq (2 ^ exponentOf q)) (2 ^ (exponentOf p + 1))
-          (pow-pos (2 * d)) (mul-pos (zero-lt-suc 3) (mul-pos (pow-pos (exponentOf q)) (pow-pos (exponentOf q))))
-          n-four-top (ap (λ (x : ℕ). sq (2 ^ (x + 1))) gap ∙ square-hyp-top d (exponentOf q)) t (λ x. x) (λ x. x))
+      (pow-pos (2 * d)) (mul-pos (zero-lt-suc 3) (mul-pos (pow-pos (exponentOf q)) (pow-pos (exponentOf q))))
+      n-four-top (ap (λ (x : ℕ). sq (2 ^ (x + 1))) gap ∙ square-hyp-top d (exponentOf q)) t (λ x. x) (λ x. x))
       i l h g
 
 pub fast-law : (p q d top a b r : ℕ) → exponentOf p ≡ d + exponentOf q → top < 2 → Scaled (significandOf p) top a
@@ -175,12 +181,12 @@ fast-law p q d top a b r gap t x y i l h g = elim (decide top 0) [
       let z : top ≡ 0 = omega arith in
       subst (λ (w : ℕ). HypotIs p q (w * 2 ^ 52 + r)) (let w : exponentOf p ≡ exponentOf p + top = omega arith in w)
       (same-binade p q d gap r (subst (λ (w : ℕ). NearestHalf (sq w + sq (2 * significandOf q) / 2 ^ (2 * d)) r)
-          (x .two z) (subst (λ (w : ℕ). NearestHalf (sq a + sq w / 2 ^ (2 * d)) r) (y .two z) i)) l h (omega arith))
+      (x .two z) (subst (λ (w : ℕ). NearestHalf (sq a + sq w / 2 ^ (2 * d)) r) (y .two z) i)) l h (omega arith))
   | inr k ↦
       let z : top ≡ 1 = omega arith in
       subst (λ (w : ℕ). HypotIs p q (w * 2 ^ 52 + r)) (let w : exponentOf p + 1 ≡ exponentOf p + top = omega arith in w)
       (next-binade p q d gap r (subst (λ (w : ℕ). NearestHalf (sq w + sq (significandOf q) / 2 ^ (2 * d)) r) (x .one z)
-          (subst (λ (w : ℕ). NearestHalf (sq a + sq w / 2 ^ (2 * d)) r) (y .one z) i)) l h g)
+      (subst (λ (w : ℕ). NearestHalf (sq a + sq w / 2 ^ (2 * d)) r) (y .one z) i)) l h g)
 ]
 
 -- the smaller one's digits are no more than the larger one's, d binades apart
@@ -226,10 +232,10 @@ pub fast-bits : (p q top a b r : ℕ) → q ≤ p → 2 ^ 52 ≤ q → p < 2000 
     → HypotIs p q ((p / 2 ^ 52 - 1 + top) * 2 ^ 52 + r)
 fast-bits p q top a b r h k l t x y i m n =
     fast-law p q (p / 2 ^ 52 - q / 2 ^ 52) top a b r (let g : exponentOf p ≡ p / 2 ^ 52 - q / 2 ^ 52 + exponentOf q =
-        omega arith in g) t
+    omega arith in g) t
     (subst (λ (z : ℕ). Scaled z top a) (let g : p % 2 ^ 52 + 2 ^ 52 ≡ significandOf p = omega arith in g) x)
     (subst (λ (z : ℕ). Scaled z top b) (let g : q % 2 ^ 52 + 2 ^ 52 ≡ significandOf q = omega arith in g) y) i m n
-        (omega arith)
+    (omega arith)
 
 pub ordered : (a b p q : ℕ) → (a < b → p ≡ b) × (b ≤ a → p ≡ a) → (a < b → q ≡ a) × (b ≤ a → q ≡ b)
     → (q ≤ p) × ((c : ℕ) → a < c → b < c → p < c)

@@ -31,8 +31,8 @@ hypot-val (fin u m e) (fin v n d) s t a b h k =
     let p : m * up e * 2 ^ 1074 / down e ≡ a = ap (λ (z : ℕ). z / down e) (h .1) ∙ mul-div-cancel a (down-pos e) in
     let q : n * up d * 2 ^ 1074 / down d ≡ b = ap (λ (z : ℕ). z / down d) (k .1) ∙ mul-div-cancel b (down-pos d) in
     ap (λ (z : ℕ). root binary64 (z ^ 2 + (n * up d * 2 ^ 1074 / down d) ^ 2)) p ∙ ap
-        (λ (z : ℕ). root binary64 (a ^ 2 + z ^ 2)) q ∙ ap (λ (z : ℕ). root binary64 (z + b ^ 2)) (square a) ∙ ap
-        (λ (z : ℕ). root binary64 (sq a + z)) (square b)
+    (λ (z : ℕ). root binary64 (a ^ 2 + z ^ 2)) q ∙ ap (λ (z : ℕ). root binary64 (z + b ^ 2)) (square a) ∙ ap
+    (λ (z : ℕ). root binary64 (sq a + z)) (square b)
 
 pub finite-val : (b : ℕ) → b % 2 ^ 63 < 2047 * 2 ^ 52
     → HasValue (ofBits binary64 b) (leb (2 ^ 63) b) (ticksOf (b % 2 ^ 63)) (2 ^ 1074)
@@ -59,7 +59,7 @@ inf-bits b h =
     let x : b % 2 ^ 63 / 2 ^ 52 ≡ 2047 = omega arith in
     let t : b % 2 ^ 52 ≡ 0 = omega arith in
     ap (λ (z : ℕ). ofFields binary64 (leb (2 ^ 63) b) z (b % 2 ^ 52)) x ∙ ap
-        (λ (z : ℕ). ofFields binary64 (leb (2 ^ 63) b) 2047 z) t
+    (λ (z : ℕ). ofFields binary64 (leb (2 ^ 63) b) 2047 z) t
 
 contra : T (not (isNan nan)) → ⊥
 unfolding isNan

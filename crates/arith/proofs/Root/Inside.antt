@@ -14,12 +14,17 @@ pub near-inside : (n z j u : ℕ) → 0 < u → sq (2 * j + 1) < z → z < sq (2
 near-inside n z j u U a b lo hi =
     let s : 0 < sq u = mul-pos U U in
     let x : sq ((2 * j + 1) * u) < 4 * n = lt-of-le-of-lt (le-of-eq (mul-mul-mul-comm (2 * j + 1) u (2 * j + 1) u))
-        (lt-of-lt-of-le (mul-lt-mul-of-pos-right a s) lo) in
+    (lt-of-lt-of-le (mul-lt-mul-of-pos-right a s) lo) in
     let y : 4 * n < sq ((2 * j + 3) * u) = lt-of-lt-of-le hi (le-trans
-        (mul-le-mul-right (sq u) (let w : z + 1 ≤ sq (2 * j + 3) = omega arith in w))
-        (le-of-eq (sym (mul-mul-mul-comm (2 * j + 3) u (2 * j + 3) u)))) in
-    record { over = le-of-lt x; under = le-of-lt y; over-even = lt-not-eq (sq ((2 * j + 1) * u)) (4 * n) x; under-even =
-        lt-not-eq (4 * n) (sq ((2 * j + 3) * u)) y }
+    (mul-le-mul-right (sq u) (let w : z + 1 ≤ sq (2 * j + 3) = omega arith in w))
+    (le-of-eq (sym (mul-mul-mul-comm (2 * j + 3) u (2 * j + 3) u)))) in
+    record {
+      over = le-of-lt x;
+      under = le-of-lt y;
+      over-even = lt-not-eq (sq ((2 * j + 1) * u)) (4 * n) x;
+      under-even =
+          lt-not-eq (4 * n) (sq ((2 * j + 3) * u)) y;
+    }
 
 pub inside-lo : (z j : ℕ) → NearestHalf z (j + 1) → sq (2 * j + 1) < z
 inside-lo z j h = let o = h .over in omega arith

@@ -69,9 +69,9 @@ root-magnitude : (f : Format) (n : ℕ) → magnitude f (root f n) ≡ min (mid 
 root-magnitude f n =
     let x = root f n in
     let e : key f x ≡ mid f + min (mid f) (rounded (prec f) (stickyRoot n) 4) = root-key f n ∙ roundKey-side f false
-        (stickyRoot n) (stickyRoot n) 0 4 (zero-lt-suc 3) (sym (zero-add (stickyRoot n))) in
+    (stickyRoot n) (stickyRoot n) 0 4 (zero-lt-suc 3) (sym (zero-add (stickyRoot n))) in
     go (negative x) (mid f) (magnitude f x) (rounded (prec f) (stickyRoot n) 4) (sym (key-is f x) ∙ e)
-        (magnitude-le f x (root-number f n)) (mid-pos f)
+    (magnitude-le f x (root-number f n)) (mid-pos f)
   where
     go : (s : Bool) (M t v : ℕ) → side M s t ≡ M + min M v → t ≤ M → 0 < M → t ≡ min M v
     go false M t v e l p = omega arith
@@ -111,7 +111,7 @@ digits-of f (inf s) h = record { q = 1; j = low f + suc (emax f); short = pow-lt
     top = unfold magnitude mid in sym (one-mul (2 ^ (low f + suc (emax f))))
 digits-of f (fin s m e) h =
     let r = representable-of f (fin s m e) (and-i (lib.Ieee.fits f (fin s m e)) true
-        (and-l (lib.Ieee.fits f (fin s m e)) (mathlib.Core.Bool.not (lib.Ieee.isNan (fin s m e))) h) tt) in
+    (and-l (lib.Ieee.fits f (fin s m e)) (mathlib.Core.Bool.not (lib.Ieee.isNan (fin s m e))) h) tt) in
     record { q = r .q; j = r .j; short = r .short; value = r .whole }
 
 module _ (f : Format) (n : ℕ) where
@@ -184,8 +184,8 @@ module _ (f : Format) (n : ℕ) where
         let d = digits-of f w p in
         let e : magnitude f x ≡ r = root-magnitude f n ∙ (let c : min (mid f) r ≡ r = omega arith in c) in
         even-below h (root-tie-even (prec f) n (d .q) (d .j) (prec-pos f) (d .short)
-            (sides r (d .q * 2 ^ d .j) (λ c. ne (e ∙ c ∙ sym (d .value))))
-            (t ∙ ap (λ (a : ℕ). sq (a + magnitude f w)) e ∙ ap (λ (b : ℕ). sq (r + b)) (d .value)))
+        (sides r (d .q * 2 ^ d .j) (λ c. ne (e ∙ c ∙ sym (d .value))))
+        (t ∙ ap (λ (a : ℕ). sq (a + magnitude f w)) e ∙ ap (λ (b : ℕ). sq (r + b)) (d .value)))
   ]
 
   pub root-nearest : NearestRoot f n (root f n)

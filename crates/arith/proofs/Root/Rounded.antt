@@ -42,10 +42,10 @@ pub root-ge : (f : Format) (N q j : ℕ) → q < 2 ^ prec f → q * 2 ^ j ≤ mi
 root-ge f N q j Q l h =
     rw (root-key f N)
     (le-trans (le-of-eq (sym (roundKey-fix f false q j (q * 2 ^ j * 4) 0 4 (zero-lt-suc 3) Q
-        (sym (zero-add (q * 2 ^ j * 4))) ∙ ap (λ (z : ℕ). mid f + z) (min-eq-right l))))
+    (sym (zero-add (q * 2 ^ j * 4))) ∙ ap (λ (z : ℕ). mid f + z) (min-eq-right l))))
     (roundKey-mono f (q * 2 ^ j * 4) 0 4 (stickyRoot N) 0 4 (zero-lt-suc 3) (zero-lt-suc 3)
-        (let k = stickyRoot-ge N (2 * (q * 2 ^ j)) (rw (double-square (q * 2 ^ j)) (mul-le-mul-left 4 h)) in omega
-        arith)))
+    (let k = stickyRoot-ge N (2 * (q * 2 ^ j)) (rw (double-square (q * 2 ^ j)) (mul-le-mul-left 4 h)) in omega
+    arith)))
 
 -- whatever the values, the result is of the format
 pub root-fits : (f : Format) (n : ℕ) → T (fits f (root f n))

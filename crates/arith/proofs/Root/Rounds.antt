@@ -34,10 +34,10 @@ root-size n =
     let r = wholeRoot-is n in
     let z = size s in
     let a : size n ≤ z + z = size-le n (z + z) (lt-of-lt-of-le (r .most)
-        (le-trans (mul-le-mul (below s) (below s)) (le-of-eq (sq-pow z)))) in
+    (le-trans (mul-le-mul (below s) (below s)) (le-of-eq (sq-pow z)))) in
     go s n z (size n) a
     (λ h. size-ge n (z - 1 + (z - 1)) (le-trans (le-of-eq (sym (sq-pow (z - 1))))
-        (le-trans (mul-le-mul (size-reaches s (z - 1) h) (size-reaches s (z - 1) h)) (r .least))))
+    (le-trans (mul-le-mul (size-reaches s (z - 1) h) (size-reaches s (z - 1) h)) (r .least))))
   where
     go : (s n z w : ℕ) → w ≤ z + z → (z - 1 < z → z - 1 + (z - 1) < w) → z ≡ suc w / 2
     go s n z w a b = elim (decide z 0) [
@@ -111,16 +111,19 @@ keeps-nearest f n =
     let u = 2 ^ k in
     let h = rootDigits p u n 0 in
     let top : n < sq (2 ^ p * u) = lt-of-lt-of-le (size-lt n) (le-trans (pow-mono (enough (size n) p))
-        (le-of-eq (sym (sq-pow (p + k)) ∙ ap sq (pow-add 2 p k)))) in
-    let w : DigitsWithin u n h 1 = root-digits p u n 0 (subst (λ (x : ℕ). x ≤ n)
-        (sym (square (0 * u) ∙ ap sq (zero-mul u))) zero-le, lt-of-lt-of-le top
-        (le-of-eq (ap (λ (x : ℕ). sq (x * u)) (sym (native.Mathlib.Nat.zero-add (2 ^ p))) ∙ sym
-        (square ((0 + 2 ^ p) * u))))) in
+    (le-of-eq (sym (sq-pow (p + k)) ∙ ap sq (pow-add 2 p k)))) in
+    let w : DigitsWithin u n h 1 = root-digits p u n 0 (
+      subst (λ (x : ℕ). x ≤ n)
+          (sym (square (0 * u) ∙ ap sq (zero-mul u))) zero-le,
+      lt-of-lt-of-le top
+          (le-of-eq (ap (λ (x : ℕ). sq (x * u)) (sym (native.Mathlib.Nat.zero-add (2 ^ p))) ∙ sym
+          (square ((0 + 2 ^ p) * u)))),
+    ) in
     kept-nearest n u h (pow-pos k) (le-trans (le-of-eq (sym (square (h * u)))) (w .0))
-        (lt-of-lt-of-le (w .1) (le-of-eq (square ((h + 1) * u))))
+    (lt-of-lt-of-le (w .1) (le-of-eq (square ((h + 1) * u))))
     (compare (4 * n) (((2 * h + 1) * u) ^ 2))
     (subst (λ (x : ℕ). Compared (compare (4 * n) (((2 * h + 1) * u) ^ 2)) (4 * n) x) (square ((2 * h + 1) * u))
-        (compared (4 * n) (((2 * h + 1) * u) ^ 2)))
+    (compared (4 * n) (((2 * h + 1) * u) ^ 2)))
 
 num-root : (f : Format) (n : ℕ)
     → root f n ≡ units f false (kept-digits f n (2 ^ (suc (size n) / 2 - prec f))) (suc (size n) / 2 - prec f)
@@ -140,13 +143,13 @@ root-round f n =
     let k = suc (size n) / 2 - prec f in
     let L = 2 ^ low f in
     let d : stickyRoot n * L / (4 * L) ≡ wholeRoot n = div-same (stickyRoot n * L) (4 * L) (stickyRoot n) 4
-        (mul-pos (zero-lt-suc 3) (pow-pos (low f))) (zero-lt-suc 3) (go (stickyRoot n) L) ∙ stickyRoot-div n in
+    (mul-pos (zero-lt-suc 3) (pow-pos (low f))) (zero-lt-suc 3) (go (stickyRoot n) L) ∙ stickyRoot-div n in
     let e : size (stickyRoot n * L / (4 * L)) - prec f ≡ k = ap (λ (z : ℕ). size z - prec f) d ∙ ap
-        (λ (z : ℕ). z - prec f) (root-size n) in
+    (λ (z : ℕ). z - prec f) (root-size n) in
     let c : closest (stickyRoot n * L) (4 * L * 2 ^ k) ≡ kept-digits f n (2 ^ k) = closest-same (stickyRoot n * L)
-        (4 * L * 2 ^ k) (stickyRoot n) (4 * 2 ^ k) (mul-pos (mul-pos (zero-lt-suc 3) (pow-pos (low f))) (pow-pos k))
-        (mul-pos (zero-lt-suc 3) (pow-pos k)) (scaled (stickyRoot n) L k) ∙ kept-is n (kept-digits f n (2 ^ k)) (2 ^ k)
-        (pow-pos k) (keeps-nearest f n) in
+    (4 * L * 2 ^ k) (stickyRoot n) (4 * 2 ^ k) (mul-pos (mul-pos (zero-lt-suc 3) (pow-pos (low f))) (pow-pos k))
+    (mul-pos (zero-lt-suc 3) (pow-pos k)) (scaled (stickyRoot n) L k) ∙ kept-is n (kept-digits f n (2 ^ k)) (2 ^ k)
+    (pow-pos k) (keeps-nearest f n) in
     num-root f n
     ∙ ap (λ (z : ℕ). units f false z k) (sym c)
     ∙ ap (λ (z : ℕ). units f false (closest (stickyRoot n * L) (4 * L * 2 ^ z)) z) (sym e)

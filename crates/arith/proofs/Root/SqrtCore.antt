@@ -22,7 +22,7 @@ module _ (n z G : ℕ) (e : 4 * n ≡ z * sq (2 ^ G)) (lo : 2 ^ 106 ≤ z) (hi :
   n-hi =
       let a : z * sq (2 ^ G) < 2 ^ 108 * sq (2 ^ G) = mul-lt-mul-of-pos-right hi (mul-pos (pow-pos G) (pow-pos G)) in
       lt-of-lt-of-le (go n (z * sq (2 ^ G)) (sq (2 ^ G)) e a) (le-of-eq
-          (sym (mul-mul-mul-comm (2 ^ 53) (2 ^ G) (2 ^ 53) (2 ^ G))))
+      (sym (mul-mul-mul-comm (2 ^ 53) (2 ^ G) (2 ^ 53) (2 ^ G))))
     where
       go : (n w u : ℕ) → 4 * n ≡ w → w < 2 ^ 108 * u → n < 2 ^ 106 * u
       go n w u p q = omega arith
@@ -67,7 +67,7 @@ odd-e e h l = omega arith
 four-times : (m i k G : ℕ) → 2 + i ≡ k + (G + G) → 4 * (m * 2 ^ i) ≡ m * 2 ^ k * sq (2 ^ G)
 four-times m i k G h =
     let a : 2 ^ k * sq (2 ^ G) ≡ 4 * 2 ^ i = ap (λ (x : ℕ). 2 ^ k * x) (sym (pow-add 2 G G)) ∙ sym (pow-add 2 k (G + G))
-        ∙ ap (λ (x : ℕ). 2 ^ x) (sym h) ∙ pow-add 2 2 i in
+    ∙ ap (λ (x : ℕ). 2 ^ x) (sym h) ∙ pow-add 2 2 i in
     swap m (2 ^ i) ∙ ap (λ (x : ℕ). m * x) (sym a) ∙ sym (mul-assoc m (2 ^ k) (sq (2 ^ G)))
   where
     swap : (m p : ℕ) → 4 * (m * p) ≡ m * (4 * p)
@@ -78,11 +78,11 @@ radicand m e z l h = elim (decide 1 (e % 2)) [
   | inl p ↦
       let q : e % 2 ≡ 1 = omega arith in
       four-times m (e + 50) 55 (e / 2 - 1) (odd-e e q l) ∙ ap (λ (x : ℕ). x * sq (2 ^ (e / 2 - 1)))
-          (let w = h .odd q in let v : m * 2 ^ 55 ≡ z * 2 ^ 54 = omega arith in v)
+      (let w = h .odd q in let v : m * 2 ^ 55 ≡ z * 2 ^ 54 = omega arith in v)
   | inr p ↦
       let q : e % 2 ≡ 0 = omega arith in
       four-times m (e + 50) 54 (e / 2 - 1) (even-e e q l) ∙ ap (λ (x : ℕ). x * 2 ^ 54 * sq (2 ^ (e / 2 - 1)))
-          (sym (h .even q))
+      (sym (h .even q))
 ]
 
 pub sqrt-law : (m e z r : ℕ) → 2 ≤ e → e < 4092 → Radicand m e z → NearestHalf (z * 2 ^ 54) r
@@ -91,7 +91,7 @@ sqrt-law m e z r e2 em rad ins =
     let l = rad .least in
     let h = rad .most in
     let k = root-inside (m * 2 ^ (e + 50)) (z * 2 ^ 54) (e / 2 - 1) (radicand m e z e2 rad) (omega arith) (omega arith)
-        r ins (omega arith) in
+    r ins (omega arith) in
     record { fine = k .0; is = k .1 }
 
 step : (z r : ℕ) → NearestHalfBelow z (r + 1) → NearestHalf z r

@@ -31,8 +31,11 @@ sqrt-val (fin true m e) n h = absurd (no (h .0))
 
 of-value : (b n m e r : ℕ) → b < 2 ^ 63 → HasValue (ofBits binary64 b) false n (2 ^ 1074)
     → n * 2 ^ 1074 ≡ m * 2 ^ (e + 50) → SqrtIs m e r → SqrtOf b r
-of-value b n m e r h v w s = record { fine = s .fine; is = sqrt-val (ofBits binary64 b) n v ∙ ap
-    (λ (z : ℕ). root binary64 z) w ∙ s .is }
+of-value b n m e r h v w s = record {
+  fine = s .fine;
+  is = sqrt-val (ofBits binary64 b) n v ∙ ap
+      (λ (z : ℕ). root binary64 z) w ∙ s .is;
+}
 
 value-of : (b E m : ℕ) → b < 2 ^ 63 → b ≡ E * 2 ^ 52 + m → m < 2 ^ 53 → (0 < E → 2 ^ 52 ≤ m) → E < 2046
     → HasValue (ofBits binary64 b) false (m * 2 ^ E) (2 ^ 1074)
@@ -46,17 +49,17 @@ normal-sqrt b r l h s =
     let E = b / 2 ^ 52 - 1 in
     let e = b / 2 ^ 52 + 1023 in
     of-value b (m * 2 ^ E) m e r (omega arith) (value-of b E m (omega arith) (omega arith) (omega arith)
-        (λ x. omega arith) (omega arith))
+    (λ x. omega arith) (omega arith))
     (mul-assoc m (2 ^ E) (2 ^ 1074) ∙ ap (λ (z : ℕ). m * z) (sym (pow-add 2 E 1074) ∙ ap (λ (i : ℕ). 2 ^ i)
-        (let k : E + 1074 ≡ e + 50 = omega arith in k))) s
+    (let k : E + 1074 ≡ e + 50 = omega arith in k))) s
 
 pub small-sqrt : (b m e r : ℕ) → b < 2 ^ 52 → m * 2 ^ e ≡ b * 2 ^ 1024 → SqrtIs m e r → SqrtOf b r
 small-sqrt b m e r h w s =
     of-value b (b * 2 ^ 0) m e r (omega arith) (value-of b 0 b (omega arith) (omega arith) (omega arith)
-        (λ (x : 0 < 0). absurd (lt-irrefl 0 x)) (omega arith))
+    (λ (x : 0 < 0). absurd (lt-irrefl 0 x)) (omega arith))
     (ap (λ (z : ℕ). z * 2 ^ 1074) (native.Mathlib.Nat.mul-one b) ∙ ap (λ (z : ℕ). b * z) (pow-add 2 1024 50) ∙ sym
-        (mul-assoc b (2 ^ 1024) (2 ^ 50)) ∙ ap (λ (z : ℕ). z * 2 ^ 50) (sym w) ∙ mul-assoc m (2 ^ e) (2 ^ 50) ∙ ap
-        (λ (z : ℕ). m * z) (sym (pow-add 2 e 50))) s
+    (mul-assoc b (2 ^ 1024) (2 ^ 50)) ∙ ap (λ (z : ℕ). z * 2 ^ 50) (sym w) ∙ mul-assoc m (2 ^ e) (2 ^ 50) ∙ ap
+    (λ (z : ℕ). m * z) (sym (pow-add 2 e 50))) s
 
 -- m doubles as e falls
 pub doubled : (m e : ℕ) → 1 ≤ e → 2 * m * 2 ^ (e - 1) ≡ m * 2 ^ e
@@ -119,7 +122,7 @@ sqrt-none b t h n = elim (decide (b % 2 ^ 63) (2047 * 2 ^ 52)) [
         let p : 0 < z .m = z .more (omega arith) in
         sqrt-negative (ofBits binary64 b) (z .m * 2 ^ (z .E))
         (subst (λ (s : Bool). HasValue (ofBits binary64 b) s (z .m * 2 ^ (z .E)) (2 ^ 1074))
-            (minus-sign b (omega arith)) (bits-val b (z .E) (z .m) (z .whole) (z .short) (z .normal) (z .range)))
+        (minus-sign b (omega arith)) (bits-val b (z .E) (z .m) (z .whole) (z .short) (z .normal) (z .range)))
         (mul-pos p (pow-pos (z .E)))
   ]
 ]

@@ -30,9 +30,15 @@ wholeRoot-is N =
     let z = lib.Ieee.size N in
     let h = rootDigits z 1 N 0 in
     let P : 2 ^ z ≤ 2 ^ z * 2 ^ z = le-trans (le-of-eq (sym (one-mul (2 ^ z))))
-        (mul-le-mul-right (2 ^ z) (pow-pos z)) in
-    let w : DigitsWithin 1 N h 1 = root-digits z 1 N 0 (zero-le, rw (square ((0 + 2 ^ z) * 1), mul-one (0 + 2 ^ z),
-        zero-add (2 ^ z)) (lt-of-lt-of-le (size-lt N) P)) in
+    (mul-le-mul-right (2 ^ z) (pow-pos z)) in
+    let w : DigitsWithin 1 N h 1 = root-digits z 1 N 0 (
+      zero-le,
+      rw (
+        square ((0 + 2 ^ z) * 1),
+        mul-one (0 + 2 ^ z),
+        zero-add (2 ^ z),
+      ) (lt-of-lt-of-le (size-lt N) P),
+    ) in
     let e : (h * 1) ^ 2 ≡ h * h = square (h * 1) ∙ ap (λ (x : ℕ). x * x) (mul-one h) in
     let d : ((h + 1) * 1) ^ 2 ≡ (h + 1) * (h + 1) = square ((h + 1) * 1) ∙ ap (λ (x : ℕ). x * x) (mul-one (h + 1)) in
     record { least = le-trans (le-of-eq (sym e)) (w .0); most = lt-of-lt-of-le (w .1) (le-of-eq d) }
@@ -45,8 +51,11 @@ square-lt : (a b : ℕ) → a * a < b * b → a < b
 square-lt a b h = elim (decide b a) [ inl l ↦ absurd (not-le-of-lt h (mul-le-mul l l)) | inr l ↦ l ]
 
 square-le : (a b : ℕ) → a * a ≤ b * b → a ≤ b
-square-le a b h = elim (decide a b) [ inl l ↦ l | inr l ↦ absurd (not-le-of-lt
-    (lt-of-le-of-lt (mul-le-mul-left b (le-of-lt l)) (mul-lt-mul-of-pos-right l (lt-of-le-of-lt zero-le l))) h) ]
+square-le a b h = elim (decide a b) [
+  | inl l ↦ l
+  | inr l ↦ absurd (not-le-of-lt
+      (lt-of-le-of-lt (mul-le-mul-left b (le-of-lt l)) (mul-lt-mul-of-pos-right l (lt-of-le-of-lt zero-le l))) h)
+]
 
 -- ---- the stickyRoot of N's root: 2 s where s = root (4 N) is exact, 2 s + 1 where it is more
 unfoldable pub stickyRoot : ℕ → ℕ
@@ -78,8 +87,11 @@ stickyRoot-le N m h = go (eqb (s * s) (4 * N)) (eqb→eq (s * s) (4 * N))
 
     go : (b : Bool) → (T b → s * s ≡ 4 * N) → (s * s ≡ 4 * N → T b) → 2 * s + cond b 0 1 ≤ 2 * m
     go true x y = omega (arith, l)
-    go false x y = elim (eq-or-lt-of-le l) [ inl e ↦ absurd (y (le-antisymm (r .least)
-        (subst (λ (z : ℕ). 4 * N ≤ z * z) (sym e) h))) | inr k ↦ omega arith ]
+    go false x y = elim (eq-or-lt-of-le l) [
+      | inl e ↦ absurd (y (le-antisymm (r .least)
+          (subst (λ (z : ℕ). 4 * N ≤ z * z) (sym e) h)))
+      | inr k ↦ omega arith
+    ]
 
 -- and back
 at-most-one : (b : Bool) → cond b 0 1 ≤ 1

@@ -21,7 +21,7 @@ module _ (n u K : ℕ) (U : 0 < u) (lo : 2 * (K * u) ≤ 2 * n + u) (hi : 2 * n 
   up-tie : (L : ℕ) → K < L → 2 * (L * u) ≤ 2 * n + u → (L ≡ K + 1) × (2 * n ≡ (2 * K + 1) * u)
   up-tie L h k =
       let x : (2 * L) * u ≤ (2 * K + 2) * u = rw (mul-assoc 2 L u, add-mul (2 * K) 2 u, mul-assoc 2 K u)
-          (omega arith) in
+      (omega arith) in
       let y : 2 * L ≤ 2 * K + 2 = le-of-mul-le-mul-right x U in
       let e : L ≡ K + 1 = omega arith in
       let z : L * u ≡ K * u + u = ap (λ (w : ℕ). w * u) e ∙ add-mul K 1 u ∙ ap (λ (w : ℕ). K * u + w) (one-mul u) in
@@ -30,7 +30,7 @@ module _ (n u K : ℕ) (U : 0 < u) (lo : 2 * (K * u) ≤ 2 * n + u) (hi : 2 * n 
   down-tie : (L : ℕ) → L < K → 2 * n ≤ 2 * (L * u) + u → (K ≡ L + 1) × (2 * n ≡ (2 * L + 1) * u)
   down-tie L h k =
       let x : (2 * K) * u ≤ (2 * L + 2) * u = rw (mul-assoc 2 K u, add-mul (2 * L) 2 u, mul-assoc 2 L u)
-          (omega arith) in
+      (omega arith) in
       let y : 2 * K ≤ 2 * L + 2 = le-of-mul-le-mul-right x U in
       let e : K ≡ L + 1 = omega arith in
       let z : K * u ≡ L * u + u = ap (λ (w : ℕ). w * u) e ∙ add-mul L 1 u ∙ ap (λ (w : ℕ). L * u + w) (one-mul u) in
@@ -47,7 +47,7 @@ module _ (n u K : ℕ) (U : 0 < u) (lo : 2 * (K * u) ≤ 2 * n + u) (hi : 2 * n 
           let t = down-tie (closest n u) l (closest-within-half n u U .1) in
           let w = half-way n u (closest n u) U (t .1) in
           let z : K * u ≡ closest n u * u + u = ap (λ (x : ℕ). x * u) (t .0) ∙ add-mul (closest n u) 1 u ∙ ap
-              (λ (x : ℕ). closest n u * u + x) (one-mul u) in
+          (λ (x : ℕ). closest n u * u + x) (one-mul u) in
           let s = spread (closest n u) in
           let k = even (inr (omega arith)) in
           let c : ⊥ = parity (closest n u) K w (t .0) k in
@@ -74,11 +74,13 @@ stickyRoot-div N =
     let r = wholeRoot N in
     let R = wholeRoot-is N in
     let a : 2 * (2 * r) ≤ stickyRoot N = stickyRoot-ge N (2 * r) (rw (double-square r)
-        (mul-le-mul-left 4 (R .least))) in
-    let b : stickyRoot N < 4 * (r + 1) = elim (decide (2 * (2 * (r + 1))) (stickyRoot N))
-        [ inl h ↦ absurd (not-le-of-lt (R .most) (back ((r + 1) * (r + 1)) N
-        (subst (λ (z : ℕ). z ≤ 4 * N) (double-square (r + 1)) (ge-stickyRoot N (2 * (r + 1)) h)))) | inr h ↦ omega
-        arith ] in
+    (mul-le-mul-left 4 (R .least))) in
+    let b : stickyRoot N < 4 * (r + 1) = elim (decide (2 * (2 * (r + 1))) (stickyRoot N)) [
+      | inl h ↦ absurd (not-le-of-lt (R .most) (back ((r + 1) * (r + 1)) N
+          (subst (λ (z : ℕ). z ≤ 4 * N) (double-square (r + 1)) (ge-stickyRoot N (2 * (r + 1)) h))))
+      | inr h ↦ omega
+          arith
+    ] in
     omega arith
   where
     back : (a N : ℕ) → 4 * a ≤ 4 * N → a ≤ N

@@ -27,7 +27,7 @@ kept-le p n c =
     let k = drop p n c in
     let u = c * 2 ^ k in
     le-trans (nearest-le (n / u) (compare (n % u * 2) u)) (subst (λ (x : ℕ). x < 2 ^ p) (div-div-eq-div-mul n c (2 ^ k))
-        (kept-lt p (n / c)))
+    (kept-lt p (n / c)))
 
 pub all-in-use : (z p : ℕ) → 0 < p → 0 < z - p → p - 1 + (z - p) < z
 all-in-use z p P h = omega arith
@@ -38,9 +38,9 @@ kept-ge p n c P K =
     let u = c * 2 ^ k in
     let w = n / c in
     let a : 2 ^ (p - 1) * 2 ^ k ≤ w = le-trans (le-of-eq (sym (pow-add 2 (p - 1) k)))
-        (size-reaches w (p - 1 + k) (all-in-use (size w) p P K)) in
+    (size-reaches w (p - 1 + k) (all-in-use (size w) p P K)) in
     le-trans (subst (λ (x : ℕ). 2 ^ (p - 1) ≤ x) (div-div-eq-div-mul n c (2 ^ k)) (le-div-iff-mul-le (pow-pos k) .1 a))
-        (nearest-ge (n / u) (compare (n % u * 2) u))
+    (nearest-ge (n / u) (compare (n % u * 2) u))
 
 same-drop : (k a b c d : ℕ) → 0 < b → 0 < d → a * d ≤ c * b
     → closest a (b * 2 ^ k) * 2 ^ k ≤ closest c (d * 2 ^ k) * 2 ^ k
@@ -48,7 +48,7 @@ same-drop k a b c d B D h =
     mul-le-mul-right (2 ^ k)
     (closest-mono a (b * 2 ^ k) c (d * 2 ^ k) (mul-pos B (pow-pos k)) (mul-pos D (pow-pos k))
     (le-trans (le-of-eq (sym (mul-assoc a d (2 ^ k)))) (le-trans (mul-le-mul-right (2 ^ k) h)
-        (le-of-eq (mul-assoc c b (2 ^ k))))))
+    (le-of-eq (mul-assoc c b (2 ^ k))))))
 
 fewer : (x y p : ℕ) → x ≤ y → x - p ≤ y - p
 fewer x y p h = omega arith
@@ -70,7 +70,7 @@ rounded-mono p a b c d P B D h =
           (le-trans (le-of-eq (sym (pow-add 2 p j)))
           (le-trans (pow-mono (room p j k P l))
           (le-trans (le-of-eq (pow-add 2 (p - 1) k)) (mul-le-mul-right (2 ^ k)
-              (kept-ge p c d P (lt-of-le-of-lt zero-le l))))))
+          (kept-ge p c d P (lt-of-le-of-lt zero-le l))))))
     ]
 
 pub rounded-same : (p a b c d : ℕ) → 0 < p → 0 < b → 0 < d → a * d ≡ c * b → rounded p a b ≡ rounded p c d
@@ -98,11 +98,11 @@ fix-at : (q j c k : ℕ) → 0 < c → k ≤ j → closest (q * 2 ^ j * c) (c * 
 fix-at q j c k C K =
     let r = q * 2 ^ (j - k) in
     let e : r * 2 ^ k ≡ q * 2 ^ j = mul-assoc q (2 ^ (j - k)) (2 ^ k) ∙ ap (λ (x : ℕ). q * x)
-        (sym (pow-add 2 (j - k) k) ∙ ap (λ (x : ℕ). 2 ^ x) (back j k K)) in
+    (sym (pow-add 2 (j - k) k) ∙ ap (λ (x : ℕ). 2 ^ x) (back j k K)) in
     let d : q * 2 ^ j * c ≡ r * (c * 2 ^ k) = ap (λ (x : ℕ). x * c) (sym e) ∙ mul-assoc r (2 ^ k) c ∙ ap
-        (λ (x : ℕ). r * x) (mul-comm (2 ^ k) c) in
+    (λ (x : ℕ). r * x) (mul-comm (2 ^ k) c) in
     ap (λ (x : ℕ). closest x (c * 2 ^ k) * 2 ^ k) d ∙ ap (λ (x : ℕ). x * 2 ^ k)
-        (closest-exact r (c * 2 ^ k) (mul-pos C (pow-pos k))) ∙ e
+    (closest-exact r (c * 2 ^ k) (mul-pos C (pow-pos k))) ∙ e
 
 pub rounded-fix : (p q j c : ℕ) → 0 < c → q < 2 ^ p → rounded p (q * 2 ^ j * c) c ≡ q * 2 ^ j
 unfolding rounded
@@ -145,7 +145,7 @@ unfolding rounded
 rounded-near p n c d C h =
     let k = drop p n c in
     let K : c * 2 ^ k ≤ 2 ^ d * c = le-trans (le-of-eq (mul-comm c (2 ^ k)))
-        (mul-le-mul-right c (pow-mono (drop-le p n c d C h))) in
+    (mul-le-mul-right c (pow-mono (drop-le p n c d C h))) in
     within-wider (kept p n c * 2 ^ k * c) n (c * 2 ^ k) (2 ^ d * c)
     (subst (λ (x : ℕ). WithinHalf x n (c * 2 ^ k)) (ap (λ (x : ℕ). kept p n c * x) (mul-comm c (2 ^ k)) ∙ sym
-        (mul-assoc (kept p n c) (2 ^ k) c)) (closest-within-half n (c * 2 ^ k) (mul-pos C (pow-pos k)))) K
+    (mul-assoc (kept p n c) (2 ^ k) c)) (closest-within-half n (c * 2 ^ k) (mul-pos C (pow-pos k)))) K

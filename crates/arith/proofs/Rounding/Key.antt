@@ -100,8 +100,11 @@ forth i l h = omega arith
 scaled : (f : Format) (e : ℤ) → down e ≤ 2 ^ low f → Scaled f e
 unfolding unit
 scaled f (pos k) h = (k + low f, sym (pow-add 2 k (low f)) ∙ sym (mul-one (2 ^ (k + low f))))
-scaled f (negsuc k) h = (low f - suc k, one-mul (2 ^ low f) ∙ ap (λ (x : ℕ). 2 ^ x)
-    (sym (forth (suc k) (low f) (exponent (suc k) (low f) h))) ∙ pow-add 2 (low f - suc k) (suc k))
+scaled f (negsuc k) h = (
+  low f - suc k,
+  one-mul (2 ^ low f) ∙ ap (λ (x : ℕ). 2 ^ x)
+      (sym (forth (suc k) (low f) (exponent (suc k) (low f) h))) ∙ pow-add 2 (low f - suc k) (suc k),
+)
 
 below-mid : (f : Format) (a t d : ℕ) → 0 < d → a < 2 ^ suc (emax f) * d → a * unit f ≡ t * d → t < mid f
 unfolding unit mid
@@ -110,7 +113,7 @@ below-mid f a t d D h e =
     (lt-of-le-of-lt (le-of-eq (sym e))
     (lt-of-lt-of-le (mul-lt-mul-of-pos-right h (pow-pos (low f)))
     (le-of-eq (mul-right-comm (2 ^ suc (emax f)) d (2 ^ low f) ∙ ap (λ (x : ℕ). x * d)
-        (mul-comm (2 ^ suc (emax f)) (2 ^ low f) ∙ sym (pow-add 2 (low f) (suc (emax f))))))))
+    (mul-comm (2 ^ suc (emax f)) (2 ^ low f) ∙ sym (pow-add 2 (low f) (suc (emax f))))))))
 
 pub representable : (f : Format) (x : Float) → T (finite x) → T (fits f x) → Representable f x
 unfolding fits
@@ -126,11 +129,11 @@ representable f (fin s (suc m) e) F h =
     let d : Bool = ltb (suc m * up e) (2 ^ suc (emax f) * down e) in
     let z = scaled f e (leb→le (down e) (2 ^ low f) (and-r (a && b) c (and-l (a && b && c) d h))) in
     let v : suc m * up e * unit f ≡ suc m * 2 ^ z .0 * down e = mul-assoc (suc m) (up e) (unit f) ∙ ap
-        (λ (x : ℕ). suc m * x) (z .1) ∙ sym (mul-assoc (suc m) (2 ^ z .0) (down e)) in
+    (λ (x : ℕ). suc m * x) (z .1) ∙ sym (mul-assoc (suc m) (2 ^ z .0) (down e)) in
     representable-by f (fin s (suc m) e) s (suc m) (z .0) (refl, v)
     (ltb→lt (suc m) (2 ^ prec f) (and-r a b (and-l (a && b) c (and-l (a && b && c) d h))))
     (below-mid f (suc m * up e) (suc m * 2 ^ z .0) (down e) (down-pos e)
-        (ltb→lt (suc m * up e) (2 ^ suc (emax f) * down e) (and-r (a && b && c) d h)) v)
+    (ltb→lt (suc m * up e) (2 ^ suc (emax f) * down e) (and-r (a && b && c) d h)) v)
 
 -- a number of the format f: any value but a NaN
 abbrev pub number : Format → Float → Bool

@@ -20,9 +20,9 @@ module _ (L D : ℕ) (LP : 0 < L) (DP : 0 < D) (A B t u : ℕ) (p : A * L ≡ t 
   scale-lt =
       ltb-iff A B t u
       (λ h. lt-of-mul-lt-mul-right D (subst (λ (z : ℕ). z < u * D) p
-          (subst (λ (z : ℕ). A * L < z) q (mul-lt-mul-of-pos-right h LP))))
+      (subst (λ (z : ℕ). A * L < z) q (mul-lt-mul-of-pos-right h LP))))
       (λ h. lt-of-mul-lt-mul-right L (subst (λ (z : ℕ). z < B * L) (sym p)
-          (subst (λ (z : ℕ). t * D < z) (sym q) (mul-lt-mul-of-pos-right h DP))))
+      (subst (λ (z : ℕ). t * D < z) (sym q) (mul-lt-mul-of-pos-right h DP))))
 
   scale-eq : eqb A B ≡ eqb t u
   scale-eq =
@@ -124,7 +124,7 @@ lt-key f (fin s m e) (fin t n d) p q =
     let a = magnitude f (fin s m e) in
     let b = magnitude f (fin t n d) in
     below-scale (unit f) (down e * down d) (unit-pos f) (mul-pos (down-pos e) (down-pos d)) (m * up e * down d)
-        (n * up d * down e) a b
+    (n * up d * down e) a b
     (cross f m e d a (x .value .1)) (cross' f n d e b (y .value .1)) s t
     ∙ side-lt (mid f) a b (mid-pos f) (le-of-lt (x .small)) (le-of-lt (y .small)) s t
 
@@ -142,7 +142,7 @@ eq-key f (fin s m e) (fin t n d) p q =
     let a = magnitude f (fin s m e) in
     let b = magnitude f (fin t n d) in
     level-scale (unit f) (down e * down d) (unit-pos f) (mul-pos (down-pos e) (down-pos d)) (m * up e * down d)
-        (n * up d * down e) a b
+    (n * up d * down e) a b
     (cross f m e d a (x .value .1)) (cross' f n d e b (y .value .1)) s t
     ∙ side-eq (mid f) a b (mid-pos f) (le-of-lt (x .small)) (le-of-lt (y .small)) s t
 

@@ -23,7 +23,7 @@ rounded-near-drop p n c C =
     let k = drop p n c in
     subst (λ (u : ℕ). WithinHalf (kept p n c * 2 ^ k * c) n u) (mul-comm c (2 ^ k))
     (subst (λ (x : ℕ). WithinHalf x n (c * 2 ^ k)) (ap (λ (x : ℕ). kept p n c * x) (mul-comm c (2 ^ k)) ∙ sym
-        (mul-assoc (kept p n c) (2 ^ k) c)) (closest-within-half n (c * 2 ^ k) (mul-pos C (pow-pos k))))
+    (mul-assoc (kept p n c) (2 ^ k) c)) (closest-within-half n (c * 2 ^ k) (mul-pos C (pow-pos k))))
 
 -- two multiples of u, one above the other
 apart : (K Q u : ℕ) → K * u < Q * u → K * u + u ≤ Q * u
@@ -71,7 +71,7 @@ module _ (p n c : ℕ) (P : 0 < p) (C : 0 < c) where
   rounded-nearest-above q j Q h = elim (decide (drop p n c) j) [
     | inl l ↦ above (rounded p n c) (q * 2 ^ j) n c (2 ^ drop p n c) (rounded-near-drop p n c C)
         (le-trans (apart (kept p n c) (q * 2 ^ (j - drop p n c)) (2 ^ drop p n c)
-            (lt-of-lt-of-le h (le-of-eq (sym (multiple q j (drop p n c) l))))) (le-of-eq (multiple q j (drop p n c) l)))
+        (lt-of-lt-of-le h (le-of-eq (sym (multiple q j (drop p n c) l))))) (le-of-eq (multiple q j (drop p n c) l)))
     | inr l ↦ absurd (not-le-of-lt (lt-of-lt-of-le h (le-of-lt (small q j Q l))) (base (lt-of-le-of-lt zero-le l) .1))
   ]
 
@@ -112,12 +112,12 @@ compare-same (suc a) = compare·suc-suc a a ∙ compare-same a
 pub half-way : (n u Q : ℕ) → 0 < u → 2 * n ≡ (2 * Q + 1) * u → closest n u ≡ Q + Q % 2
 half-way n u Q U h =
     let e : (2 * Q + 1) * u ≡ 2 * (Q * u) + u = add-mul (2 * Q) 1 u ∙ ap (λ (z : ℕ). z + 1 * u) (mul-assoc 2 Q u) ∙ ap
-        (λ (z : ℕ). 2 * (Q * u) + z) (one-mul u) in
+    (λ (z : ℕ). 2 * (Q * u) + z) (one-mul u) in
     let d : n / u ≡ Q = div-eq-of-lt-le u (omega arith) (rw (add-mul Q 1 u, one-mul u) (omega arith)) in
     let m : n / u * u + n % u ≡ n = div-add-mod' n u in
     let r : n % u * 2 ≡ u = rest (n / u) Q u n (n % u) d m (h ∙ e) in
     ap (λ (z : ℕ). nearest z (compare (n % u * 2) u)) d ∙ ap (λ (z : ℕ). nearest Q (compare z u)) r ∙ ap
-        (λ (o : Ordering). nearest Q o) (compare-same u)
+    (λ (o : Ordering). nearest Q o) (compare-same u)
   where
     rest : (q Q u n r : ℕ) → q ≡ Q → q * u + r ≡ n → 2 * n ≡ 2 * (Q * u) + u → r * 2 ≡ u
     rest q Q u n r d m h = let x : q * u ≡ Q * u = ap (λ (z : ℕ). z * u) d in omega arith
@@ -165,8 +165,8 @@ module _ (p n c : ℕ) (P : 0 < p) (C : 0 < c) where
     | inl l ↦ tie-even n (c * 2 ^ k) (kept p n c) (q * 2 ^ (j - k)) (mul-pos C (pow-pos k))
         (closest-within-half n (c * 2 ^ k) (mul-pos C (pow-pos k)))
         (e ∙ ap (λ (w : ℕ). (kept p n c * 2 ^ k + w) * c) (sym (multiple q j k l)) ∙ ap (λ (z : ℕ). z * c)
-            (sym (add-mul (kept p n c) (q * 2 ^ (j - k)) (2 ^ k))) ∙ mul-assoc (kept p n c + q * 2 ^ (j - k)) (2 ^ k) c
-            ∙ ap (λ (z : ℕ). (kept p n c + q * 2 ^ (j - k)) * z) (mul-comm (2 ^ k) c))
+        (sym (add-mul (kept p n c) (q * 2 ^ (j - k)) (2 ^ k))) ∙ mul-assoc (kept p n c + q * 2 ^ (j - k)) (2 ^ k) c
+        ∙ ap (λ (z : ℕ). (kept p n c + q * 2 ^ (j - k)) * z) (mul-comm (2 ^ k) c))
         (sides l h) refl
     | inr l ↦ absurd (small-case l h)
   ]

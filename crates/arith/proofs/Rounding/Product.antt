@@ -75,12 +75,12 @@ mul-key f x y p q = rw (positivePart-is f x p, positivePart-is f y q, negativePa
         let b = magnitude f (fin t n d) in
         unfold mul in
         round-roundKey f (unlike s t) (m * up e * (n * up d)) (down e * down d) (a * b) (unit f)
-            (positive-of s a * positive-of t b + negative-of s a * negative-of t b)
-            (positive-of s a * negative-of t b + negative-of s a * positive-of t b)
+        (positive-of s a * positive-of t b + negative-of s a * negative-of t b)
+        (positive-of s a * negative-of t b + negative-of s a * positive-of t b)
         (mul-pos (down-pos e) (down-pos d)) (unit-pos f)
         (mul-assoc (m * up e * (n * up d)) (unit f) (unit f) ∙ mul-mul-mul-comm (m * up e) (n * up d) (unit f) (unit f)
-            ∙ ap (λ (z : ℕ). z * (n * up d * unit f)) (x .value .1) ∙ ap (λ (z : ℕ). a * down e * z) (y .value .1)
-            ∙ mul-mul-mul-comm a (down e) b (down d))
+        ∙ ap (λ (z : ℕ). z * (n * up d * unit f)) (x .value .1) ∙ ap (λ (z : ℕ). a * down e * z) (y .value .1)
+        ∙ mul-mul-mul-comm a (down e) b (down d))
         (signs s t a b)
 
 pub mul-number : (f : Format) (x y : Float) → T (finiteNumber f x) → T (finiteNumber f y) → T (number f (mul f x y))

@@ -35,7 +35,7 @@ quot f A B a b d1 d2 p q =
     let U = unit f in
     mul-right-comm (A * d2) U b ∙ ap (λ (z : ℕ). z * U) (mul-assoc A d2 b) ∙ mul-right-comm A (d2 * b) U
     ∙ ap (λ (z : ℕ). z * (d2 * b)) p ∙ ap (λ (z : ℕ). a * d1 * z) (mul-comm d2 b ∙ sym q) ∙ mul-mul-mul-comm a d1 B U
-        ∙ ap (λ (z : ℕ). a * B * z) (mul-comm d1 U) ∙ mul-mul-mul-comm a B U d1
+    ∙ ap (λ (z : ℕ). a * B * z) (mul-comm d1 U) ∙ mul-mul-mul-comm a B U d1
 
 signed : (s : Bool) (a u : ℕ) → Difference s (a * u) (positive-of s a * u) (negative-of s a * u)
 signed false a u = rw (zero-mul u) (omega arith)
@@ -67,10 +67,10 @@ div-key f x y p q h = let w : 0 < positivePart f y = omega arith in
         let N : 0 < n = digits-pos f false n d h in
         unfold div in
         ap (λ (z : Bool). key f (cond z (cond (eqb m 0) nan (inf (unlike s false)))
-            (round f (unlike s false) (m * up e * down d) (n * up d * down e)))) (not-zero n N)
+        (round f (unlike s false) (m * up e * down d) (n * up d * down e)))) (not-zero n N)
         ∙ ap (λ (z : Bool). key f (round f z (m * up e * down d) (n * up d * down e))) (sign-false s)
         ∙ round-roundKey f s (m * up e * down d) (n * up d * down e) (a * unit f) b (positive-of s a * unit f)
-            (negative-of s a * unit f)
+        (negative-of s a * unit f)
         (mul-pos (mul-pos N (up-pos d)) (down-pos e)) h
         (quot f (m * up e) (n * up d) a b (down e) (down d) (x .value .1) (y .value .1))
         (signed s a (unit f))
@@ -119,9 +119,9 @@ div-key-neg f x y p q h = let w : 0 < negativePart f y = omega arith in
         let N : 0 < n = digits-pos f true n d h in
         unfold div in
         ap (λ (z : Bool). key f (cond z (cond (eqb m 0) nan (inf (unlike s true)))
-            (round f (unlike s true) (m * up e * down d) (n * up d * down e)))) (not-zero n N)
+        (round f (unlike s true) (m * up e * down d) (n * up d * down e)))) (not-zero n N)
         ∙ round-roundKey f (unlike s true) (m * up e * down d) (n * up d * down e) (a * unit f) b
-            (negative-of s a * unit f) (positive-of s a * unit f)
+        (negative-of s a * unit f) (positive-of s a * unit f)
         (mul-pos (mul-pos N (up-pos d)) (down-pos e)) h
         (quot f (m * up e) (n * up d) a b (down e) (down d) (x .value .1) (y .value .1))
         (signed-not s a (unit f))

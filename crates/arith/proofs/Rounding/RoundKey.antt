@@ -35,9 +35,9 @@ roundKey-mono f a b c a' b' c' C C' h =
     let u : (a - b) * c' ≤ (a' - b') * c = rw (times-sub a b c', times-sub a' b' c) (omega arith) in
     let v : (b' - a') * c ≤ (b - a) * c' = rw (times-sub b' a' c, times-sub b a c') (omega arith) in
     let x : rounded (prec f) (a - b) c ≤ rounded (prec f) (a' - b') c' = rounded-mono (prec f) (a - b) c (a' - b') c'
-        (prec-pos f) C C' u in
+    (prec-pos f) C C' u in
     let y : rounded (prec f) (b' - a') c' ≤ rounded (prec f) (b - a) c = rounded-mono (prec f) (b' - a') c' (b - a) c
-        (prec-pos f) C' C v in
+    (prec-pos f) C' C v in
     omega arith
 
 pub roundKey-same : (f : Format) (a b c a' b' c' : ℕ) → 0 < c → 0 < c' → a * c' + b' * c ≡ a' * c + b * c'
@@ -121,8 +121,12 @@ roundKey-near f a b c d C h k m = elim (decide b a) [ inl l ↦ up-case l | inr 
         let n = a - b in
         let N : n < 2 ^ (prec f + d) * c = omega arith in
         let e = rounded-near (prec f) n c d C N in
-        rw (roundKey-side f false n a b c C (omega arith), min-eq-right (fit n N), add-mul (mid f)
-            (rounded (prec f) n c) c) (omega arith)
+        rw (
+          roundKey-side f false n a b c C (omega arith),
+          min-eq-right (fit n N),
+          add-mul (mid f)
+              (rounded (prec f) n c) c,
+        ) (omega arith)
 
     down-case : a ≤ b → WithinHalf (roundKey f a b c * c + b) (mid f * c + a) (2 ^ d * c)
     down-case l =
@@ -130,5 +134,9 @@ roundKey-near f a b c d C h k m = elim (decide b a) [ inl l ↦ up-case l | inr 
         let N : n < 2 ^ (prec f + d) * c = omega arith in
         let e = rounded-near (prec f) n c d C N in
         let G : rounded (prec f) n c * c ≤ mid f * c = mul-le-mul-right c (fit n N) in
-        rw (roundKey-side f true n a b c C (omega arith), min-eq-right (fit n N), times-sub (mid f)
-            (rounded (prec f) n c) c) (omega arith)
+        rw (
+          roundKey-side f true n a b c C (omega arith),
+          min-eq-right (fit n N),
+          times-sub (mid f)
+              (rounded (prec f) n c) c,
+        ) (omega arith)

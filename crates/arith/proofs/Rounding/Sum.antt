@@ -53,7 +53,7 @@ module _ (f : Format) (A B D a b : ℕ) (DP : 0 < D) (p : A * unit f ≡ a * D) 
       let l : b ≤ a = over f B A D b a DP q p k in
       let m : a ≤ b = over f A B D a b DP p q h in
       round-roundKey f false (A - B) D (a - b) 1 (mid f - a + (mid f + b)) (mid f + mid f) DP (pow-pos 0)
-          (less f A B D a b DP p q) (omega arith)
+      (less f A B D a b DP p q) (omega arith)
 
 module _ (f : Format) (A B D a b : ℕ) (DP : 0 < D) (p : A * unit f ≡ a * D) (q : B * unit f ≡ b * D) (x : a < mid f)
     (y : b < mid f) where
@@ -90,9 +90,9 @@ add-key f (fin s m e) (fin t n d) p q =
     let x = representable-of f (fin s m e) p in
     let y = representable-of f (fin t n d) q in
     sum-key f (m * up e * down d) (n * up d * down e) (down e * down d) (magnitude f (fin s m e))
-        (magnitude f (fin t n d)) (mul-pos (down-pos e) (down-pos d))
+    (magnitude f (fin t n d)) (mul-pos (down-pos e) (down-pos d))
     (cross f m e d (magnitude f (fin s m e)) (x .value .1)) (cross' f n d e (magnitude f (fin t n d)) (y .value .1))
-        (x .small) (y .small) s t
+    (x .small) (y .small) s t
 
 -- ---- negation
 side-neg : (M t : ℕ) → t ≤ M → (s : Bool) → side M (not s) t + side M s t ≡ M + M
@@ -126,7 +126,7 @@ sub-key f x y p q =
     let n : key f (neg y) + key f y ≡ mid f + mid f = neg-key f y (number-of f y q) in
     ap (λ (z : Float). key f z) (sub-is f x y) ∙ add-key f x (neg y) p (neg-finiteNumber f y q)
     ∙ roundKey-same f (key f x + key f (neg y)) (mid f + mid f) 1 (key f x) (key f y) 1 (pow-pos 0) (pow-pos 0)
-        (omega arith)
+    (omega arith)
 
 cond-number : (f : Format) (b : Bool) (x y : Float) → T (number f x) → T (number f y) → T (number f (cond b x y))
 cond-number f true x y h k = h

@@ -23,8 +23,11 @@ returns c = either-way _ _ _ _ _ (c .before .before .before .before .before .lar
 
 hypot-searched-requires : tie.Need-hypot-searched-requires
 hypot-searched-requires c κs = let o = ordered _ _ _ _ (c .before .before .larger .ensures)
-    (c .before .smaller .ensures) in (o .0, o .1 9218868437227405312 (c .before .before .before .pre .0)
-    (c .before .before .before .pre .1))
+    (c .before .smaller .ensures) in (
+      o .0,
+      o .1 9218868437227405312 (c .before .before .before .pre .0)
+          (c .before .before .before .pre .1),
+    )
 
 returns-2 : tie.Need-returns-2
 returns-2 c = either-way _ _ _ _ _ (c .before .before .before .larger .ensures) (c .before .before .smaller .ensures)

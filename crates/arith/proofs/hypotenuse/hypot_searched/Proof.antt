@@ -45,7 +45,7 @@ sticky-requires c κs = search needs
 hypot-significand-requires : tie.Need-hypot-significand-requires
 hypot-significand-requires c κs =
     let s = any-shift _ _ _ _ (c .before .before .before .before .exponent .ensures)
-        (c .before .before .before .exponent2 .ensures) (c .before .before .before .before .before .pre .0) in
+    (c .before .before .before .exponent2 .ensures) (c .before .before .before .before .before .pre .0) in
     let p = positive _ (c .before .if2 .left) in
     let q = c .sticky .ensures .bit in
     search needs

@@ -1,7 +1,8 @@
 -- `arith::hypotenuse::hypot_significand` meets its contract. Assumes nothing.
 use mathlib.Core.Path.{_≡_, refl, subst, sym, ap, _∙_}
 use Prim.Native.Nat.{ℕ, _+_, _-_, _*_, _/_, _^_, _≤_, _<_}
-use native.Mathlib.Nat.{le-of-lt, le-trans, le-of-eq, mul-le-mul, mul-le-mul-left, div-le-of-le-mul, add-assoc, add-comm, add-left-comm, mul-assoc, mul-comm, mul-left-comm, mul-add, add-mul, two-mul}
+use native.Mathlib.Nat.{le-of-lt, le-trans, le-of-eq, mul-le-mul, mul-le-mul-left, div-le-of-le-mul, add-assoc}
+use native.Mathlib.Nat.{add-comm, add-left-comm, mul-assoc, mul-comm, mul-left-comm, mul-add, add-mul, two-mul}
 use native.Mathlib.Omega.{arith}
 use lib.Pow.{pow-add}
 use Rattle.arith.specs.Core.{RoundsDownAt, RoundsUp, RoundsDown}
@@ -33,8 +34,11 @@ last-low : (z t k m : ℕ) → m < 2 ^ 52 → z ≤ 8 * (m * m) → RoundsDownAt
 last-low z t k m l h = (under (low-square (2 ^ 52) z m l h), λ e. low-square (2 ^ 52) z m l h)
 
 last : (z t m : ℕ) → m < 2 ^ 53 → z ≤ 8 * (m * m) → RoundsDown z t (m + 2 ^ 52)
-last z t m l h = record { low = λ g. last-low z t (m + 2 ^ 52) m (omega arith) h; high = λ g. subst
-    (λ (x : ℕ). RoundsDownAt z t (m + 2 ^ 52) x) (high-mid m g) (last-high z t (m + 2 ^ 52) m h) }
+last z t m l h = record {
+  low = λ g. last-low z t (m + 2 ^ 52) m (omega arith) h;
+  high = λ g. subst
+      (λ (x : ℕ). RoundsDownAt z t (m + 2 ^ 52) x) (high-mid m g) (last-high z t (m + 2 ^ 52) m h);
+}
 
 twice : (d : ℕ) → 2 * d ≡ d + d
 twice d = omega arith
@@ -48,7 +52,7 @@ quotient a b d h =
     let g : 2 * b ≤ 2 * (a * 2 ^ d) = omega arith in
     div-le-of-le-mul (2 ^ (2 * d))
     (le-trans (mul-le-mul g g) (le-of-eq (regroup a (2 ^ d) ∙ ap (λ (x : ℕ). x * ((2 * a) * (2 * a)))
-        (sym (ap (λ (n : ℕ). 2 ^ n) (twice d) ∙ pow-add 2 d d)))))
+    (sym (ap (λ (n : ℕ). 2 ^ n) (twice d) ∙ pow-add 2 d d)))))
 
 mul-sum-of-squares : tie.Need-mul-sum-of-squares
 mul-sum-of-squares c = search needs
@@ -71,21 +75,26 @@ bisect-requires c κs =
     let e = c .sum-of-squares .ensures .0 in
     let z : ℕ = c .sum-of-squares .result .hi * 2 ^ 56 + c .sum-of-squares .result .lo in
     let a : 4 * (c .before .args .mb * c .before .args .mb) ≤ c .sum-of-squares .result .hi * 2 ^
-        56 + c .sum-of-squares .result .lo = omega arith in
+    56 + c .sum-of-squares .result .lo = omega arith in
     let b : c .sum-of-squares .result .hi * 2 ^
-        56 + c .sum-of-squares .result .lo ≤ 8 * (c .before .args .mb * c .before .args .mb) = omega arith in
+    56 + c .sum-of-squares .result .lo ≤ 8 * (c .before .args .mb * c .before .args .mb) = omega arith in
     let u = first z (c .before .args .t) (c .before .args .mb) (omega arith) (omega arith) a in
     let v = last z (c .before .args .t) (c .before .args .mb) (omega arith) b in
     search needs
 
 returns : tie.Need-returns
-returns c = (omega arith, omega arith, subst (λ (x : ℕ). RoundsUp x (c .before .before .args .t)
-    (c .bisect .result - 1)) (c .before .sum-of-squares .ensures .0) (c .bisect .ensures .2), subst
-    (λ (x : ℕ). RoundsDown x (c .before .before .args .t) (c .bisect .result)) (c .before .sum-of-squares .ensures .0)
-    (c .bisect .ensures .3))
+returns c = (
+  omega arith,
+  omega arith,
+  subst (λ (x : ℕ). RoundsUp x (c .before .before .args .t)
+      (c .bisect .result - 1)) (c .before .sum-of-squares .ensures .0) (c .bisect .ensures .2),
+  subst
+      (λ (x : ℕ). RoundsDown x (c .before .before .args .t) (c .bisect .result)) (c .before .sum-of-squares .ensures .0)
+      (c .bisect .ensures .3),
+)
 
 pub hypot-significand-spec : {M : Type 1} → statement M
 hypot-significand-spec =
     tie.close
     (tie.spec mul-sum-of-squares mul-sum-of-squares-2 sum-of-squares-requires sub-bisect add-bisect bisect-requires
-        returns)
+    returns)

@@ -40,12 +40,20 @@ rounds-up-at-requires-2 : tie.Need-rounds-up-at-requires-2
 rounds-up-at-requires-2 c κs = search needs
 
 returns : tie.Need-returns
-returns c = (λ e. up-low (omega arith) (c .rounds-up-at .ensures .0 e), λ e. down-low (omega arith)
-    (c .rounds-up-at .ensures .1 e), c .rounds-up-at .ensures .2)
+returns c = (
+  λ e. up-low (omega arith) (c .rounds-up-at .ensures .0 e),
+  λ e. down-low (omega arith)
+      (c .rounds-up-at .ensures .1 e),
+  c .rounds-up-at .ensures .2,
+)
 
 returns-2 : tie.Need-returns-2
-returns-2 c = (λ e. up-high (omega arith) (c .rounds-up-at2 .ensures .0 e), λ e. down-high (omega arith)
-    (c .rounds-up-at2 .ensures .1 e), c .rounds-up-at2 .ensures .2)
+returns-2 c = (
+  λ e. up-high (omega arith) (c .rounds-up-at2 .ensures .0 e),
+  λ e. down-high (omega arith)
+      (c .rounds-up-at2 .ensures .1 e),
+  c .rounds-up-at2 .ensures .2,
+)
 
 pub rounds-up-spec : {M : Type 1} → statement M
 rounds-up-spec =

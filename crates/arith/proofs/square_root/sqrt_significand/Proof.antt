@@ -24,7 +24,7 @@ found {z} {y} {r} m e' e h l u d =
     subst (λ (x : ℕ). NearestHalf x r) (sym e')
     (subst (λ (x : ℕ). NearestHalf (m * 2 ^ 54) x) f
     (at m (r - 1) (omega arith) (subst (λ (x : ℕ). RoundsUp x 0 (r - 1)) q u)
-        (subst (λ (x : ℕ). RoundsDown (m * 2 ^ 54) 0 x) (sym f) (subst (λ (x : ℕ). RoundsDown x 0 r) q d))))
+    (subst (λ (x : ℕ). RoundsDown (m * 2 ^ 54) 0 x) (sym f) (subst (λ (x : ℕ). RoundsDown x 0 r) q d))))
 
 widened-requires : tie.Need-widened-requires
 widened-requires c κs = search needs

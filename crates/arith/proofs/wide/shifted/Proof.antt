@@ -59,7 +59,7 @@ returns c =
     let h = shr-le (c .before .before .before .args .q .lo) (c .before .before .before .args .sh) in
     let g = shr-le (c .before .before .before .args .q .hi) (c .before .before .before .args .sh) in
     let e = law (c .before .before .before .args .q .hi) (c .before .before .before .args .q .lo)
-        (c .before .before .before .args .sh) (omega arith) in
+    (c .before .before .before .args .sh) (omega arith) in
     search needs
 
 pub shifted-spec : {M : Type 1} → statement M

@@ -1,7 +1,8 @@
 -- `sq::square` meets its contract.
 use mathlib.Core.Path.{_≡_, refl, sym, ap, _∙_}
 use Prim.Native.Nat.{ℕ, _+_, _*_, _/_, _%_, _^_, _<_}
-use native.Mathlib.Nat.{le-of-lt, lt-of-le-of-lt, mul-le-mul-left, add-assoc, add-comm, add-left-comm, mul-assoc, mul-comm, mul-left-comm, mul-add, add-mul, two-mul}
+use native.Mathlib.Nat.{le-of-lt, lt-of-le-of-lt, mul-le-mul-left, add-assoc, add-comm, add-left-comm, mul-assoc}
+use native.Mathlib.Nat.{mul-comm, mul-left-comm, mul-add, add-mul, two-mul}
 use native.Mathlib.Omega.{arith}
 use lib.Pow.{shl-lt}
 use borrow.Author.Needs.{needs}
@@ -28,7 +29,7 @@ digits c =
     ap (λ (n : ℕ). n * n) (sym (whole c))
     ∙ expand 268435456 (c / 268435456) (c % 268435456)
     ∙ ap (λ (n : ℕ). c / 268435456 * (c / 268435456) * 72057594037927936 + n * 268435456 + c %
-        268435456 * (c % 268435456)) (sym (twice (c / 268435456) (c % 268435456)))
+    268435456 * (c % 268435456)) (sym (twice (c / 268435456) (c % 268435456)))
 
 hi-lt : (c : ℕ) → c < 2 ^ 55 → c / 268435456 < 2 ^ 27
 hi-lt c h = omega arith
