@@ -1,0 +1,130 @@
+-- Bounds of vertices, lists of coordinates and hits; and the first strictly smallest of several hits keeps them.
+use Prim.Native.Nat.{ℕ, zero, suc, _+_, _*_, _<_}
+use mathlib.Core.Bool.{Bool, true, false, not, cond}
+use mathlib.Core.List.{List}
+use mathlib.Core.Path.{_≡_}
+use native.Mathlib.Omega.{arith}
+use lib.Arith.{lt-of-le-ne}
+use lib.Dec.{T, T-not, eqb, leb, leb→le}
+use lib.Ieee.{Float, isNan, nan}
+use lib.Ieee.Fits.{eq→eqb}
+use lib.ListN.{getD, length}
+use Rattle.arith.specs.F64.{_≺_, _≼_, ∞}
+use Rattle.arith.specs.Num.{min}
+use Rattle.section.specs.Boxes.{corners}
+use Rattle.section.specs.Demand.{UpTo}
+use Rattle.section.specs.Vertices.{count, endAt, nearer, nearestOf, next, vertexAt}
+use Rattle.section.specs.declared.shapes.Aabb.{Aabb}
+use Rattle.section.specs.declared.shapes.CollisionHit.{CollisionHit}
+use Rattle.section.specs.declared.shapes.Vertex.{Vertex}
+use Rattle.section.proofs.Demand.Bounds.{below-infinity, Finite, finite-upTo, infinity-not-below}
+use Rattle.section.proofs.Demand.Bounds.{infinity-not-le, upTo-number}
+use Rattle.section.proofs.Demand.Steps.{pick, upto-keeps, upto-makes}
+use Rattle.section.proofs.Demand.UpTo.{upTo-raise}
+
+pub record VertexUpTo (n : ℕ) (v : Vertex) : Type 0 where
+  pub z : UpTo n (v .z)
+  pub r : UpTo n (v .r)
+
+pub vertex-raise : {i j : ℕ} {v : Vertex} → VertexUpTo i v → T (leb i j) → VertexUpTo j v
+vertex-raise h t = record { z = upTo-raise (h .z) t; r = upTo-raise (h .r) t }
+
+pub next-below : (n k : ℕ) → k < n → next n k < n
+next-below n k l = go (eqb (k + 1) n) eq→eqb
+  where
+    go : (b : Bool) → (k + 1 ≡ n → T b) → cond b 0 (k + 1) < n
+    go true f = omega arith
+    go false f = lt-of-le-ne (omega arith) f
+
+-- ---- lists of coordinates: at least one vertex, and every coordinate at most 2 ^ n
+pub record VerticesUpTo (n : ℕ) (s : List Float) : Type 0 where
+  pub some : 0 < count s
+  pub each : (k : ℕ) → k < length s → UpTo n (getD s k nan)
+
+module _ {n : ℕ} {s : List Float} (S : VerticesUpTo n s) where
+  pub vertexAt-upTo : (k : ℕ) → k < count s → VertexUpTo n (vertexAt s k)
+  vertexAt-upTo k l = record { z = S .each (k * 2) (omega arith); r = S .each (k * 2 + 1) (omega arith) }
+
+  pub endAt-upTo : (k : ℕ) → k < count s → VertexUpTo n (endAt s k)
+  endAt-upTo k l = vertexAt-upTo (next (count s) k) (next-below (count s) k l)
+
+-- ---- boxes, and their corners as a list
+pub record BoxUpTo (n : ℕ) (x : Aabb) : Type 0 where
+  pub z0 : UpTo n (x .z0)
+  pub z1 : UpTo n (x .z1)
+  pub r0 : UpTo n (x .r0)
+  pub r1 : UpTo n (x .r1)
+
+pub corners-upTo : {n : ℕ} {x : Aabb} → BoxUpTo n x → VerticesUpTo n (corners x)
+corners-upTo {n} {x} X = record { some = leb→le 1 4 tt; each = go }
+  where
+    go : (k : ℕ) → k < 8 → UpTo n (getD (corners x) k nan)
+    go zero l = X .z0
+    go (suc zero) l = X .r0
+    go (suc (suc zero)) l = X .z1
+    go (suc (suc (suc zero))) l = X .r0
+    go (suc (suc (suc (suc zero)))) l = X .z1
+    go (suc (suc (suc (suc (suc zero))))) l = X .r1
+    go (suc (suc (suc (suc (suc (suc zero)))))) l = X .z0
+    go (suc (suc (suc (suc (suc (suc (suc zero))))))) l = X .r1
+    go (suc (suc (suc (suc (suc (suc (suc (suc k)))))))) l = let c : ⊥ = omega arith in absurd c
+
+-- ---- hits: the distance is a finite f64 of at most 2 ^ n, the witness at most 2 ^ 25
+pub record HitUpTo (n : ℕ) (h : CollisionHit) : Type 0 where
+  pub distance : Finite n (h .distance)
+  pub witness : VertexUpTo 25 (h .witness)
+
+-- the best so far: such a hit, or infinity as long as there is none
+pub data BestUpTo (n : ℕ) (h : CollisionHit) : Type 0 where
+  found : HitUpTo n h → BestUpTo n h
+  none-yet : h .distance ≡ ∞ → VertexUpTo 25 (h .witness) → BestUpTo n h
+
+pub best-number : {n : ℕ} {h : CollisionHit} → BestUpTo n h → T (not (isNan (h .distance)))
+unfolding isNan
+best-number (found H) = upTo-number (finite-upTo (H .distance))
+best-number (none-yet e w) = rw e tt
+
+pub best-witness : {n : ℕ} {h : CollisionHit} → BestUpTo n h → VertexUpTo 25 (h .witness)
+best-witness (found H) = H .witness
+best-witness (none-yet e w) = w
+
+module _ {n : ℕ} {a b : CollisionHit} where
+  pub nearer-new : BestUpTo n a → HitUpTo n b → HitUpTo n (nearer a b)
+  nearer-new (found A) C = pick (HitUpTo n) (b .distance ≺ a .distance) (λ h. C) (λ h. A)
+  nearer-new (none-yet e A) C =
+      pick (HitUpTo n) (b .distance ≺ a .distance) (λ h. C) (λ h. absurd (T-not (b .distance ≺ a .distance) h less))
+    where
+      less : T (b .distance ≺ a .distance)
+      less = rw e (below-infinity (finite-upTo (C .distance)))
+
+  pub nearer-old : HitUpTo n a → BestUpTo n b → HitUpTo n (nearer a b)
+  nearer-old A (found C) = pick (HitUpTo n) (b .distance ≺ a .distance) (λ h. C) (λ h. A)
+  nearer-old A (none-yet e C) =
+      pick (HitUpTo n) (b .distance ≺ a .distance)
+      (λ h. absurd (infinity-not-below (finite-upTo (A .distance)) (rw e at h))) (λ h. A)
+
+  pub nearer-best : BestUpTo n a → BestUpTo n b → BestUpTo n (nearer a b)
+  nearer-best A C = pick (BestUpTo n) (b .distance ≺ a .distance) (λ h. C) (λ h. A)
+
+-- of one hit or more
+pub nearest-hit : {n : ℕ} (f : ℕ → CollisionHit) (a : CollisionHit) (m : ℕ) → 0 < m
+    → ((k : ℕ) → k < m → HitUpTo n (f k)) → BestUpTo n a → HitUpTo n (nearestOf f a m)
+nearest-hit {n} f a m l F A =
+    upto-makes (BestUpTo n) (HitUpTo n) (λ b B. found B) (λ k best. nearer best (f k)) a m l A
+    (λ k w b B. nearer-new B (F k w))
+
+-- beside a hit
+pub nearest-beside : {n : ℕ} (f : ℕ → CollisionHit) (a : CollisionHit) (m : ℕ)
+    → ((k : ℕ) → k < m → BestUpTo n (f k)) → HitUpTo n a → HitUpTo n (nearestOf f a m)
+nearest-beside {n} f a m F A =
+    upto-keeps (HitUpTo n) (λ k best. nearer best (f k)) a m A (λ k w b B. nearer-old B (F k w))
+
+-- ---- the least distance so far: infinity as long as there is none
+pub data LeastUpTo (n : ℕ) (x : Float) : Type 0 where
+  some-distance : Finite n x → LeastUpTo n x
+  no-distance : x ≡ ∞ → LeastUpTo n x
+
+pub min-new : {n : ℕ} {x y : Float} → LeastUpTo n x → Finite n y → Finite n (min x y)
+min-new {n} {x} {y} (some-distance X) Y = pick (Finite n) (x ≼ y) (λ h. X) (λ h. Y)
+min-new {n} {x} {y} (no-distance e) Y =
+    pick (Finite n) (x ≼ y) (λ h. absurd (infinity-not-le (finite-upTo Y) (rw e at h))) (λ h. Y)

@@ -1,0 +1,132 @@
+-- Point and sphere distance: bounded where some vertex is off the axis, and otherwise +infinity with the first vertex
+-- as witness.
+use Prim.Native.Nat.{ℕ, _<_}
+use mathlib.Core.Bool.{Bool, true, false, not, _||_, cond}
+use mathlib.Core.List.{List}
+use mathlib.Core.Path.{_≡_, refl}
+use lib.Dec.{T, T-not}
+use lib.Ieee.{Float, neg}
+use Rattle.arith.specs.F64.{_≺_, _≼_, 𝟘, ∞, e-9, e-12}
+use Rattle.arith.specs.Num.{abs, isFinite}
+use Rattle.arith.specs.declared.vector.Vec3.{Vec3}
+use Rattle.section.specs.Demand.{UpTo, offAxis}
+use Rattle.section.specs.Points.{inSection, meridian, pointDistance, sphereDistance, surface, surfaceNear}
+use Rattle.section.specs.Points.{surfaceStep}
+use Rattle.section.specs.Segments.{closest}
+use Rattle.section.specs.Vertices.{count, endAt, hit, nearer, next, vertexAt}
+use Rattle.section.specs.declared.shapes.CollisionHit.{CollisionHit}
+use Rattle.section.specs.declared.shapes.Sphere.{Sphere}
+use Rattle.section.specs.declared.shapes.Vertex.{Vertex}
+use Rattle.section.proofs.Demand.Bounds.{Finite, finite-upTo, hypot-upTo, infinity-less, neg-finite, sub-upTo}
+use Rattle.section.proofs.Demand.Bounds.{zero-finite}
+use Rattle.section.proofs.Demand.Hits.{BestUpTo, endAt-upTo, found, HitUpTo, nearer-new, next-below, none-yet}
+use Rattle.section.proofs.Demand.Hits.{vertex-raise, vertexAt-upTo, VertexUpTo, VerticesUpTo}
+use Rattle.section.proofs.Demand.Segments.{closest-upTo}
+use Rattle.section.proofs.Demand.Steps.{any-found, any-not, pick, upto-keeps, upto-reaches}
+use Rattle.section.proofs.Demand.UpTo.{upTo-raise}
+
+first-vertex : {s : List Float} → VerticesUpTo 23 s → VertexUpTo 25 (vertexAt s 0)
+first-vertex S = vertex-raise (vertexAt-upTo S 0 (S .some)) tt
+
+-- a bounded hit where some vertex is off the axis, and otherwise +infinity with the first vertex
+pub record OffAxisUpTo (n : ℕ) (s : List Float) (h : CollisionHit) : Type 0 where
+  pub off : T (offAxis s) → HitUpTo n h
+  pub on : T (not (offAxis s)) → h ≡ hit ∞ (vertexAt s 0)
+
+pub offAxis-best : {n : ℕ} {s : List Float} {h : CollisionHit} → VerticesUpTo 23 s → OffAxisUpTo n s h → BestUpTo n h
+offAxis-best {n} {s} {h} S H = go (offAxis s) (H .off) (H .on)
+  where
+    go : (b : Bool) → (T b → HitUpTo n h) → (T (not b) → h ≡ hit ∞ (vertexAt s 0)) → BestUpTo n h
+    go true f g = found (f tt)
+    go false f g = rw (g tt) (none-yet refl (first-vertex S))
+
+-- vertex k is off the axis; an edge counts exactly where one of its ends is
+abbrev offAt : List Float → ℕ → Bool
+offAt s k = e-9 ≺ abs (vertexAt s k .r)
+
+off-counts : (s : List Float) (k : ℕ) → T (offAt s k) → T (not (surface (vertexAt s k) (endAt s k))) → ⊥
+off-counts s k = go (offAt s k) (offAt s (next (count s) k))
+  where
+    go : (a b : Bool) → T a → T (not (a || b)) → ⊥
+    go true b h g = g
+    go false b h g = h
+
+counts-off : (s : List Float) (k : ℕ) → k < count s → T (not (offAxis s)) → T (surface (vertexAt s k) (endAt s k)) → ⊥
+unfolding offAxis
+counts-off s k l h =
+    let m = next (count s) k in
+    go (offAt s k) (offAt s m) (any-not (offAt s) (count s) h k l)
+    (any-not (offAt s) (count s) h m (next-below (count s) k l))
+  where
+    go : (a b : Bool) → (T a → ⊥) → (T b → ⊥) → T (a || b) → ⊥
+    go true b f g = f
+    go false b f g = g
+
+-- ---- the closest point on the edges that count
+module _ {s : List Float} (S : VerticesUpTo 23 s) {p : Vertex} (P : VertexUpTo 23 p) where
+  closer : (k : ℕ) → k < count s → {b : CollisionHit} → BestUpTo 27 b
+      → HitUpTo 27 (nearer b (closest p (vertexAt s k) (endAt s k)))
+  closer k l B = nearer-new B (closest-upTo P (vertexAt-upTo S k l) (endAt-upTo S k l))
+
+  surfaceNear-off : T (offAxis s) → HitUpTo 27 (surfaceNear s p)
+  unfolding surfaceNear surfaceStep offAxis
+  surfaceNear-off h =
+      let z = any-found (offAt s) (count s) h in
+      upto-reaches (BestUpTo 27) (HitUpTo 27) (surfaceStep s p) (hit ∞ (vertexAt s 0)) (count s)
+      (none-yet refl (first-vertex S))
+      (λ k l b B. pick (BestUpTo 27) (counts k) (λ g. found (closer k l B)) (λ g. B))
+      (λ k l b B. pick (HitUpTo 27) (counts k) (λ g. closer k l (found B)) (λ g. B))
+      (z .0) (z .1)
+      (λ b B. pick (HitUpTo 27) (counts (z .0)) (λ g. closer (z .0) (z .1) B)
+      (λ g. absurd (off-counts s (z .0) (z .2) g)))
+    where
+      counts : ℕ → Bool
+      counts k = surface (vertexAt s k) (endAt s k)
+
+  surfaceNear-on : T (not (offAxis s)) → surfaceNear s p ≡ hit ∞ (vertexAt s 0)
+  unfolding surfaceNear surfaceStep
+  surfaceNear-on h =
+      upto-keeps None (surfaceStep s p) (hit ∞ (vertexAt s 0)) (count s) refl
+      (λ k l b B. pick None (surface (vertexAt s k) (endAt s k)) (λ g. absurd (counts-off s k l h g)) (λ g. B))
+    where
+      None : CollisionHit → Type 0
+      None b = b ≡ hit ∞ (vertexAt s 0)
+
+  -- ---- point distance
+  pub point-upTo : OffAxisUpTo 27 s (pointDistance s p)
+  unfolding pointDistance isFinite
+  point-upTo =
+      record {
+        off = λ h. let N = surfaceNear-off h in record { distance = signed (N .distance); witness = N .witness };
+        on = λ h. rw (surfaceNear-on h);
+      }
+    where
+      signed : {d : Float} → Finite 27 d
+          → Finite 27 (cond (isFinite d) (cond (d ≼ e-12) 𝟘 (cond (inSection s p) (neg d) d)) ∞)
+      signed {d} D =
+          pick (Finite 27) (isFinite d)
+          (λ h. pick (Finite 27) (d ≼ e-12) (λ k. zero-finite 27)
+          (λ k. pick (Finite 27) (inSection s p) (λ l. neg-finite D) (λ l. D)))
+          (λ h. absurd (T-not (isFinite d) h (finite-upTo D .ends)))
+
+  pub point-best : BestUpTo 27 (pointDistance s p)
+  point-best = offAxis-best S point-upTo
+
+-- ---- points of space and spheres: coordinates and radius up to 2 ^ 20
+pub record Vec3UpTo (n : ℕ) (p : Vec3) : Type 0 where
+  pub x : UpTo n (p .x)
+  pub y : UpTo n (p .y)
+  pub z : UpTo n (p .z)
+
+pub meridian-upTo : {p : Vec3} → Vec3UpTo 20 p → VertexUpTo 23 (meridian p)
+meridian-upTo P = record { z = upTo-raise (P .z) tt; r = upTo-raise (finite-upTo (hypot-upTo (P .x) (P .y) tt)) tt }
+
+pub sphere-upTo : {s : List Float} → VerticesUpTo 23 s → {b : Sphere} → Vec3UpTo 20 (b .center) → UpTo 20 (b .radius)
+    → OffAxisUpTo 28 s (sphereDistance s b)
+unfolding sphereDistance
+sphere-upTo {s} S {b} C R =
+    let N = point-upTo S (meridian-upTo C) in
+    record {
+      off = λ h. record { distance = sub-upTo (finite-upTo (N .off h .distance)) R tt; witness = N .off h .witness };
+      on = λ h. rw (N .on h, infinity-less R);
+    }

@@ -1,0 +1,120 @@
+-- For coordinates up to 2 ^ 23, the closest point of a segment, and of two segments, is at most 2 ^ 25, and its
+-- distance 2 ^ 27: what divides is over 1e-24 or 1e-18, and what is clamped lies from 0 to 1.
+use mathlib.Core.Bool.{not, cond}
+use lib.Dec.{T}
+use lib.Ieee.{Float, neg}
+use Rattle.arith.specs.F64.{_⊕_, _⊖_, _⊗_, _⊘_, _≺_, _≼_, 𝟘, 𝟙, e-18, e-24}
+use Rattle.arith.specs.Num.{abs}
+use Rattle.section.specs.Segments.{along, apart, clamp01, closest, closestPlaces, dot, minus, places, segments}
+use Rattle.section.specs.declared.shapes.Places.{Places}
+use Rattle.section.specs.declared.shapes.Vertex.{Vertex}
+use Rattle.section.proofs.Demand.Bounds.{add-finite, add-upTo, Finite, finite-raise, finite-upTo, hypot-finite}
+use Rattle.section.proofs.Demand.Bounds.{mul-finite, neg-finite, sub-finite, sub-upTo}
+use Rattle.section.proofs.Demand.Hits.{HitUpTo, vertex-raise, VertexUpTo}
+use Rattle.section.proofs.Demand.Quotients.{abs-over-e-18, clamped, div-finite, inside, InUnit, one-inUnit}
+use Rattle.section.proofs.Demand.Quotients.{over-e-24, zero-inUnit}
+use Rattle.section.proofs.Demand.Steps.{pick}
+
+-- the step from one vertex to another
+pub record Difference (v : Vertex) : Type 0 where
+  pub z : Finite 24 (v .z)
+  pub r : Finite 24 (v .r)
+
+pub minus-difference : {a b : Vertex} → VertexUpTo 23 a → VertexUpTo 23 b → Difference (minus a b)
+minus-difference A C = record { z = sub-upTo (A .z) (C .z) tt; r = sub-upTo (A .r) (C .r) tt }
+
+dot-finite : {a b : Vertex} → Difference a → Difference b → Finite 49 (dot a b)
+dot-finite A C = add-finite (mul-finite (A .z) (C .z) tt) (mul-finite (A .r) (C .r) tt) tt
+
+pub along-upTo : {a b : Vertex} {t : Float} → VertexUpTo 23 a → VertexUpTo 23 b → InUnit t → VertexUpTo 25 (along a b t)
+along-upTo A C t =
+    let d = minus-difference C A in
+    record {
+      z = finite-upTo (add-upTo (A .z) (finite-upTo (mul-finite (d .z) (t .most) tt)) tt);
+      r = finite-upTo (add-upTo (A .r) (finite-upTo (mul-finite (d .r) (t .most) tt)) tt);
+    }
+
+apart-finite : {a b : Vertex} → VertexUpTo 25 a → VertexUpTo 25 b → Finite 27 (apart a b)
+apart-finite A C = hypot-finite (sub-upTo (A .z) (C .z) tt) (sub-upTo (A .r) (C .r) tt) tt
+
+-- ---- a point and a segment
+pub closest-upTo : {p a b : Vertex} → VertexUpTo 23 p → VertexUpTo 23 a → VertexUpTo 23 b → HitUpTo 27 (closest p a b)
+unfolding closest
+closest-upTo {p} {a} {b} P A C = record { distance = apart-finite (vertex-raise P tt) at; witness = at }
+  where
+    d : Vertex
+    d = minus b a
+
+    D : Difference d
+    D = minus-difference C A
+
+    len2 : Finite 49 (dot d d)
+    len2 = dot-finite D D
+
+    at : VertexUpTo 25 (cond (dot d d ≼ e-24) a (along a b (clamp01 (dot (minus p a) d ⊘ dot d d))))
+    at =
+        pick (VertexUpTo 25) (dot d d ≼ e-24) (λ h. vertex-raise A tt)
+        (λ h. along-upTo A C (clamped (div-finite (dot-finite (minus-difference P A) D) len2 (over-e-24 len2 h) tt tt)))
+
+-- ---- two segments
+pub record PlacesInUnit (p : Places) : Type 0 where
+  pub s : InUnit (p .s)
+  pub t : InUnit (p .t)
+
+module _ {a b c e f : Float}
+    (A : Finite 49 a) (B : Finite 49 b) (C : Finite 49 c) (E : Finite 49 e) (F : Finite 49 f) where
+  closestPlaces-inUnit : PlacesInUnit (closestPlaces a b c e f)
+  unfolding closestPlaces
+  closestPlaces-inUnit =
+      pick PlacesInUnit (a ≼ e-24)
+      (λ g. pick PlacesInUnit (e ≼ e-24) (λ h. record { s = zero-inUnit; t = zero-inUnit })
+      (λ h. record { s = zero-inUnit; t = clamped (by-e h (finite-raise F tt)) }))
+      (λ g. pick PlacesInUnit (e ≼ e-24) (λ h. first-end g)
+      (λ h. pick PlacesInUnit (t ≺ 𝟘) (λ k. first-end g)
+      (λ k. pick PlacesInUnit (𝟙 ≺ t) (λ l. record { s = clamped (by-a g (sub-finite B C tt)); t = one-inUnit })
+      (λ l. record { s = s-inUnit; t = inside (by-e h (add-finite (mul-finite B (s-inUnit .most) tt) F tt)) k l }))))
+    where
+      den : Float
+      den = a ⊗ e ⊖ b ⊗ b
+
+      s : Float
+      s = cond (e-18 ≺ abs den) (clamp01 ((b ⊗ f ⊖ c ⊗ e) ⊘ den)) 𝟘
+
+      t : Float
+      t = (b ⊗ s ⊕ f) ⊘ e
+
+      den-finite : Finite 99 den
+      den-finite = sub-finite (mul-finite A E tt) (mul-finite B B tt) tt
+
+      num-finite : Finite 99 (b ⊗ f ⊖ c ⊗ e)
+      num-finite = sub-finite (mul-finite B F tt) (mul-finite C E tt) tt
+
+      s-inUnit : InUnit s
+      s-inUnit =
+          pick InUnit (e-18 ≺ abs den)
+          (λ h. clamped (div-finite num-finite den-finite (abs-over-e-18 den-finite h) tt tt)) (λ h. zero-inUnit)
+
+      by-a : T (not (a ≼ e-24)) → {x : Float} → Finite 50 x → Finite 130 (x ⊘ a)
+      by-a g X = div-finite X A (over-e-24 A g) tt tt
+
+      by-e : T (not (e ≼ e-24)) → {x : Float} → Finite 50 x → Finite 130 (x ⊘ e)
+      by-e h X = div-finite X E (over-e-24 E h) tt tt
+
+      first-end : T (not (a ≼ e-24)) → PlacesInUnit (places (clamp01 (neg c ⊘ a)) 𝟘)
+      first-end g = record { s = clamped (by-a g (finite-raise (neg-finite C) tt)); t = zero-inUnit }
+
+pub segments-upTo : {p p′ q q′ : Vertex} → VertexUpTo 23 p → VertexUpTo 23 p′ → VertexUpTo 23 q → VertexUpTo 23 q′
+    → HitUpTo 27 (segments p p′ q q′)
+unfolding segments
+segments-upTo P P′ Q Q′ =
+    let d = minus-difference P′ P in
+    let d′ = minus-difference Q′ Q in
+    let r = minus-difference P Q in
+    let a = dot-finite d d in
+    let b = dot-finite d d′ in
+    let c = dot-finite d r in
+    let e = dot-finite d′ d′ in
+    let f = dot-finite d′ r in
+    let at = closestPlaces-inUnit a b c e f in
+    let on = along-upTo P P′ (at .s) in
+    record { distance = apart-finite on (along-upTo Q Q′ (at .t)); witness = on }

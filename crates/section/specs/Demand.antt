@@ -1,0 +1,45 @@
+-- Demand 1 of every query that is answered: the distance is never NaN, infinite only for a point or a sphere beside a section nowhere
+-- over 1e-9 from the axis, and the witness is finite. Assumes nothing.
+use Prim.Native.Nat.{ℕ}
+use mathlib.Core.Path.{_≡_}
+use mathlib.Core.Bool.{Bool, true, false, not}
+use mathlib.Core.List.{List}
+use lib.Dec.{T}
+use lib.IntN.{pos}
+use lib.Ieee.{Float, fin, neg, isNan}
+use Rattle.arith.specs.F64.{_≺_, _≼_, ∞, e-9}
+use Rattle.arith.specs.Num.{abs, isFinite}
+use Rattle.section.specs.Vertices.{hit, count, vertexAt, any}
+use Rattle.section.specs.declared.shapes.CollisionHit.{CollisionHit}
+use Rattle.section.specs.declared.shapes.Vertex.{Vertex}
+use Rattle.section.specs.declared.shapes.Answer.{Answer}
+use Rattle.section.specs.declared.shapes.Answer.the-variants.{Hit, Refused}
+
+-- finite, and at most 2 ^ n in magnitude
+pub record UpTo (n : ℕ) (x : Float) : Type 0 where
+  pub ends : T (isFinite x)
+  pub least : T (neg (fin false 1 (pos n)) ≼ x)
+  pub most : T (x ≼ fin false 1 (pos n))
+
+-- some vertex has |radius| > 1e-9
+unfoldable pub offAxis : List Float → Bool
+offAxis s = any (λ k. e-9 ≺ abs (vertexAt s k .r)) (count s)
+
+-- a distance at most 2 ^ 28 and a witness at most 2 ^ 25 in magnitude
+pub record Bounded (h : CollisionHit) : Type 0 where
+  pub distance : UpTo 28 (h .distance)
+  pub z : UpTo 25 (h .witness .z)
+  pub r : UpTo 25 (h .witness .r)
+
+-- the same where some vertex is off the axis; otherwise +infinity with the first vertex as witness
+pub record BoundedOffAxis (s : List Float) (h : CollisionHit) : Type 0 where
+  pub number : T (not (isNan (h .distance)))
+  pub finite : T (offAxis s) → UpTo 28 (h .distance)
+  pub infinite : T (not (offAxis s)) → h ≡ hit ∞ (vertexAt s 0)
+  pub z : UpTo 25 (h .witness .z)
+  pub r : UpTo 25 (h .witness .r)
+
+-- a hit has it; a refusal owes nothing
+abbrev pub OfHit : (CollisionHit → Type 0) → Answer → Type 0
+OfHit P (Hit h) = P h
+OfHit P (Refused n) = Unit {0}

@@ -1,0 +1,11 @@
+-- Document 01's section geometry, in its order: segments and the sign, boxes, other bodies, the builder, what is turned down.
+-- Demand is what every accepted query is shown to give.
+pub mod Vertices
+pub mod Segments
+pub mod Points
+pub mod Boxes
+pub mod Convex
+pub mod Builder
+pub mod Refusals
+pub mod Answers
+pub mod Demand
