@@ -112,6 +112,52 @@ unfolding add sub mul div neg lt le ofInt ofBits hypot isFinite
     boxHolds result boxDistance samePoint keep sectionPoints sectionOf polygonPoints polygonOf
     anyOf numbersRefusal queryRefusal pointRefusal sphereRefusal boxRefusal sectionRefusal polygonRefusal
     pointAnswer sphereAnswer boxAnswer sectionAnswer polygonAnswer
-all-readings =
-    (refl, (refl, (refl, (refl, (refl, (refl, (refl, (refl, (refl, (refl, ((λ p. refl), (refl, (refl, (refl, (refl, (refl,
-    (refl, (refl, (refl, (refl, (refl, (refl, (refl, tt)))))))))))))))))))))))
+all-readings = (
+  refl,
+  (
+    refl,
+    (
+      refl,
+      (
+        refl,
+        (
+          refl,
+          (
+            refl,
+            (
+              refl,
+              (
+                refl,
+                (
+                  refl,
+                  (
+                    refl,
+                    (
+                      (λ p. refl),
+                      (
+                        refl,
+                        (
+                          refl,
+                          (
+                            refl,
+                            (
+                              refl,
+                              (
+                                refl,
+                                (refl, (refl, (refl, (refl, (refl, (refl, (refl, tt))))))),
+                              ),
+                            ),
+                          ),
+                        ),
+                      ),
+                    ),
+                  ),
+                ),
+              ),
+            ),
+          ),
+        ),
+      ),
+    ),
+  ),
+)

@@ -12,13 +12,11 @@ use super::segment::point_segment;
 use super::shapes::CollisionHit;
 use super::shapes::Sphere;
 use super::shapes::Vertex;
+use super::thresholds::BOUNDARY;
 use super::vertices::end_at;
 use super::vertices::nearer_of;
 use super::vertices::vertex_at;
 use arith::Vec3;
-
-// A point this close to an edge is on the boundary.
-const BOUNDARY: f64 = 1e-12;
 
 // An edge with both ends on the axis is no surface.
 fn edge_is_surface(a: Vertex, b: Vertex) -> bool

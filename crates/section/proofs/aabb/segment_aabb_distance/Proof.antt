@@ -1,0 +1,27 @@
+-- `section::aabb::segment_aabb_distance` meets its contract. Assumes nothing.
+use Rattle.section.specs.Boxes.{edgeBox}
+use borrow.Author.Needs.{needs}
+use Rattle.section.proofs.aabb.segment_aabb_distance.Statement.{statement}
+use Rattle.section.proofs.aabb.segment_aabb_distance.Tie as tie
+
+clip-segment-requires : tie.Need-clip-segment-requires
+clip-segment-requires c κs = search needs
+
+lerp-requires : tie.Need-lerp-requires
+lerp-requires c κs = search needs
+
+returns : tie.Need-returns
+unfolding edgeBox
+returns c = rw (← c .before .before .clip-segment .ensures, c .before .if1 .taken, ← c .lerp .ensures)
+
+nearest-side-requires : tie.Need-nearest-side-requires
+nearest-side-requires c κs = search needs
+
+returns-2 : tie.Need-returns-2
+unfolding edgeBox
+returns-2 c = rw (← c .before .before .clip-segment .ensures, c .before .if1 .left, ← c .nearest-side .ensures)
+
+pub segment-aabb-distance-spec : {M : Type 1} → statement M
+segment-aabb-distance-spec =
+    tie.close
+    (tie.spec clip-segment-requires lerp-requires returns nearest-side-requires returns-2)

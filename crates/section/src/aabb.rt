@@ -1,0 +1,249 @@
+// Box distance: the gap over all edges, the depth at five probes of the box, and what lies well inside it.
+ghost use mathlib.Core.Path.{_≡_};
+ghost use mathlib.Core.Bool.{not, _&&_, cond};
+ghost use lib.Ieee.{neg};
+ghost use Prim.Native.Nat.{_<_, _≤_};
+ghost use Rattle.arith.specs.F64.{_≺_, ∞, e-9};
+ghost use Rattle.section.specs.Vertices.{hit, count, vertexAt, endAt, any, nearer, nearestOf};
+ghost use Rattle.section.specs.Segments.{segments};
+ghost use Rattle.section.specs.Points.{pointDistance};
+ghost use Rattle.section.specs.Boxes.{corners, edgeBox, wellInside, middle, crossesBox};
+ghost use Rattle.section.specs.Boxes.{boxGap, boxPenetration, boxWitness, boxHolds, result, boxDistance};
+use super::clip::clip_segment;
+use super::points::signed_distance_2d;
+use super::segment::lerp;
+use super::segment::seg_seg_point_on_first;
+use super::shapes::Aabb;
+use super::shapes::CollisionHit;
+use super::shapes::Vertex;
+use super::thresholds::BOUNDARY;
+use super::thresholds::INTERIOR;
+use super::vertices::end_at;
+use super::vertices::nearer_of;
+use super::vertices::vertex_at;
+
+// The side of the box from c to d may be nearer.
+fn nearer_side(a: Vertex, b: Vertex, c: Vertex, d: Vertex, best: CollisionHit) -> CollisionHit
+    ensures { λ r. ⌜ r ≡ nearer best (segments a b c d) ⌝ }
+{
+    nearer_of(best, seg_seg_point_on_first(a, b, c, d))
+}
+
+fn nearest_side(a: Vertex, b: Vertex, x: Aabb) -> CollisionHit
+    ensures { λ r. ⌜ r ≡ nearestOf (λ k. segments a b (vertexAt (corners x) k) (endAt (corners x) k)) (hit ∞ a) 4 ⌝ }
+{
+    let c00 = Vertex { z: x.z0, r: x.r0 };
+    let c10 = Vertex { z: x.z1, r: x.r0 };
+    let c11 = Vertex { z: x.z1, r: x.r1 };
+    let c01 = Vertex { z: x.z0, r: x.r1 };
+    let none = CollisionHit {
+        distance: arith::infinity(),
+        witness: a,
+    };
+    let first = nearer_side(a, b, c00, c10, none);
+    let second = nearer_side(a, b, c10, c11, first);
+    let third = nearer_side(a, b, c11, c01, second);
+    nearer_side(a, b, c01, c00, third)
+}
+
+pub fn segment_aabb_distance(a: Vertex, b: Vertex, x: Aabb) -> CollisionHit
+    ensures { λ r. ⌜ r ≡ edgeBox x a b ⌝ }
+{
+    let c = clip_segment(a, b, x);
+    let any = c.any;
+    let t0 = c.t0;
+    if any {
+        return CollisionHit {
+            distance: 0.0,
+            witness: lerp(a, b, t0),
+        };
+    }
+    nearest_side(a, b, x)
+}
+
+pub fn strictly_inside_aabb(v: Vertex, x: Aabb) -> bool
+    ensures { λ r. ⌜ r ≡ wellInside x v ⌝ }
+{
+    v.z > x.z0 + INTERIOR
+        && (v.z < x.z1 - INTERIOR && (v.r > x.r0 + INTERIOR && v.r < x.r1 - INTERIOR))
+}
+
+fn middle_of(a: Vertex, b: Vertex) -> Vertex
+    ensures { λ r. ⌜ r ≡ middle a b ⌝ }
+{
+    Vertex {
+        z: (a.z + b.z) * 0.5,
+        r: (a.r + b.r) * 0.5,
+    }
+}
+
+pub fn segment_through_interior(a: Vertex, b: Vertex, x: Aabb) -> bool
+    ensures { λ r. ⌜ r ≡ crossesBox x a b ⌝ }
+{
+    let c = clip_segment(a, b, x);
+    let any = c.any;
+    let t0 = c.t0;
+    let t1 = c.t1;
+    if any {
+        return strictly_inside_aabb(middle_of(lerp(a, b, t0), lerp(a, b, t1)), x);
+    }
+    false
+}
+
+// Edge k may be nearer to the box.
+fn gap_at(s: &[f64], x: Aabb, k: usize, best: CollisionHit) -> CollisionHit
+    requires { ⌜ k < count (now s) ⌝ }
+    ensures { λ r. ⌜ r ≡ nearer best (edgeBox x (vertexAt (now (s .entry)) k) (endAt (now (s .entry)) k)) ⌝ }
+{
+    let a = vertex_at(s, k);
+    let b = end_at(s, k);
+    nearer_of(best, segment_aabb_distance(a, b, x))
+}
+
+fn box_gap(s: &[f64], x: Aabb) -> CollisionHit
+    requires { ⌜ 3 ≤ count (now s) ⌝ }
+    ensures { λ r. ⌜ r ≡ boxGap (now (s .entry)) x ⌝ }
+{
+    let n = s.len() / 2;
+    let mut best = CollisionHit {
+        distance: arith::infinity(),
+        witness: vertex_at(s, 0),
+    };
+    let mut k = 0;
+    while k < n {
+        best = gap_at(s, x, k, best);
+        k += 1;
+    }
+    best
+}
+
+// The section may be deeper at p.
+pub fn deeper_at(s: &[f64], p: Vertex, best: CollisionHit) -> CollisionHit
+    requires { ⌜ 3 ≤ count (now s) ⌝ }
+    ensures { λ r. ⌜ r ≡ nearer best (pointDistance (now (s .entry)) p) ⌝ }
+{
+    nearer_of(best, signed_distance_2d(s, p))
+}
+
+fn box_penetration(s: &[f64], x: Aabb, witness: Vertex) -> CollisionHit
+    requires { ⌜ 3 ≤ count (now s) ⌝ }
+    ensures { λ r. ⌜ r ≡ boxPenetration (now (s .entry)) x witness ⌝ }
+{
+    let c00 = Vertex { z: x.z0, r: x.r0 };
+    let c10 = Vertex { z: x.z1, r: x.r0 };
+    let c11 = Vertex { z: x.z1, r: x.r1 };
+    let c01 = Vertex { z: x.z0, r: x.r1 };
+    let none = CollisionHit {
+        distance: 0.0,
+        witness: witness,
+    };
+    let centre = deeper_at(s, middle_of(c00, c11), none);
+    let first = deeper_at(s, c00, centre);
+    let second = deeper_at(s, c10, first);
+    let third = deeper_at(s, c11, second);
+    deeper_at(s, c01, third)
+}
+
+// Vertex k, if it lies well inside, takes over the witness.
+fn witness_at(s: &[f64], x: Aabb, k: usize, at: Vertex) -> Vertex
+    requires { ⌜ k < count (now s) ⌝ }
+    ensures { λ r. ⌜ r ≡ cond (wellInside x (vertexAt (now (s .entry)) k)) (vertexAt (now (s .entry)) k) at ⌝ }
+{
+    let v = vertex_at(s, k);
+    if strictly_inside_aabb(v, x) { v } else { at }
+}
+
+fn box_witness(s: &[f64], x: Aabb, witness: Vertex) -> Vertex
+    ensures { λ r. ⌜ r ≡ boxWitness (now (s .entry)) x witness ⌝ }
+{
+    let n = s.len() / 2;
+    let mut at = witness;
+    let mut k = 0;
+    while k < n {
+        at = witness_at(s, x, k, at);
+        k += 1;
+    }
+    at
+}
+
+fn vertex_inside(s: &[f64], x: Aabb, k: usize) -> bool
+    requires { ⌜ k < count (now s) ⌝ }
+    ensures { λ r. ⌜ r ≡ wellInside x (vertexAt (now (s .entry)) k) ⌝ }
+{
+    strictly_inside_aabb(vertex_at(s, k), x)
+}
+
+fn any_vertex_inside(s: &[f64], x: Aabb) -> bool
+    ensures { λ r. ⌜ r ≡ any (λ k. wellInside x (vertexAt (now (s .entry)) k)) (count (now (s .entry))) ⌝ }
+{
+    let n = s.len() / 2;
+    let mut k = 0;
+    while k < n {
+        if vertex_inside(s, x, k) {
+            return true;
+        }
+        k += 1;
+    }
+    false
+}
+
+fn edge_through(s: &[f64], x: Aabb, k: usize) -> bool
+    requires { ⌜ k < count (now s) ⌝ }
+    ensures { λ r. ⌜ r ≡ crossesBox x (vertexAt (now (s .entry)) k) (endAt (now (s .entry)) k) ⌝ }
+{
+    segment_through_interior(vertex_at(s, k), end_at(s, k), x)
+}
+
+fn any_edge_through(s: &[f64], x: Aabb) -> bool
+    ensures { λ r. ⌜ r ≡ any (λ k. crossesBox x (vertexAt (now (s .entry)) k) (endAt (now (s .entry)) k)) (count (now (s .entry))) ⌝ }
+{
+    let n = s.len() / 2;
+    let mut k = 0;
+    while k < n {
+        if edge_through(s, x, k) {
+            return true;
+        }
+        k += 1;
+    }
+    false
+}
+
+// The search runs only where the penetration does not decide.
+fn box_overlaps(s: &[f64], x: Aabb, penetration: f64) -> bool
+    ensures { λ r. ⌜ r ≡ (not (penetration ≺ neg e-9) && boxHolds (now (s .entry)) x) ⌝ }
+{
+    if penetration < -INTERIOR {
+        return false;
+    }
+    if any_vertex_inside(s, x) {
+        return true;
+    }
+    any_edge_through(s, x)
+}
+
+pub fn result_of(penetration: f64, overlaps: bool, gap: f64) -> f64
+    ensures { λ r. ⌜ r ≡ result penetration overlaps gap ⌝ }
+{
+    if penetration < -INTERIOR {
+        return penetration;
+    }
+    if overlaps {
+        return -1e-8;
+    }
+    if gap <= BOUNDARY { 0.0 } else { gap }
+}
+
+pub fn box_distance(s: &[f64], x: Aabb) -> CollisionHit
+    requires { ⌜ 3 ≤ count (now s) ⌝ }
+    ensures { λ r. ⌜ r ≡ boxDistance (now (s .entry)) x ⌝ }
+{
+    let gap = box_gap(s, x);
+    let gap_witness = gap.witness;
+    let deep = box_penetration(s, x, gap_witness);
+    let deep_witness = deep.witness;
+    let overlaps = box_overlaps(s, x, deep.distance);
+    CollisionHit {
+        distance: result_of(deep.distance, overlaps, gap.distance),
+        witness: box_witness(s, x, deep_witness),
+    }
+}
