@@ -2,7 +2,7 @@
 -- of the table, by computation. Assumes nothing.
 use Prim.Native.Nat.{ℕ, zero, suc}
 use mathlib.Core.Path.{_≡_, refl}
-use mathlib.Core.List.{List, [], _∷_, _++_}
+use mathlib.Core.List.{List, [], _∷_}
 use lib.IntN.{pos}
 use lib.Ieee.{Float, nan, binary64, ofInt, neg, add, sub, mul, div, lt, le, ofBits}
 use Rattle.arith.specs.F64.{∞, e-8, e-9}

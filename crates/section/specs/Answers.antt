@@ -6,7 +6,7 @@ use lib.Ieee.{Float}
 use Rattle.section.specs.Points.{meridian, pointDistance, sphereDistance}
 use Rattle.section.specs.Boxes.{boxDistance}
 use Rattle.section.specs.Convex.{convexDistance}
-use Rattle.section.specs.Builder.{sectionOf, polygonOf, filled}
+use Rattle.section.specs.Builder.{sectionOf, polygonOf}
 use Rattle.section.specs.Refusals.{pointRefusal, sphereRefusal, boxRefusal, convexRefusal, sectionRefusal, polygonRefusal}
 use Rattle.section.specs.declared.shapes.Aabb.{Aabb}
 use Rattle.section.specs.declared.shapes.Sphere.{Sphere}

@@ -13,6 +13,9 @@ use Rattle.section.specs.declared.shapes.Clip.{Clip}
 use Rattle.section.specs.declared.shapes.Vertex.{Vertex}
 use Rattle.section.specs.declared.shapes.CollisionHit.{CollisionHit}
 
+abbrev pub aabb : Float → Float → Float → Float → Aabb
+aabb z0 z1 r0 r1 = record { z0 = z0; z1 = z1; r0 = r0; r1 = r1 }
+
 abbrev pub part : Float → Float → Clip
 part t0 t1 = record { any = true; t0 = t0; t1 = t1 }
 

@@ -2,7 +2,7 @@
 -- over 1e-9 from the axis, and the witness is finite. Assumes nothing.
 use Prim.Native.Nat.{ℕ}
 use mathlib.Core.Path.{_≡_}
-use mathlib.Core.Bool.{Bool, true, false, not}
+use mathlib.Core.Bool.{Bool, false, not}
 use mathlib.Core.List.{List}
 use lib.Dec.{T}
 use lib.IntN.{pos}
@@ -11,7 +11,6 @@ use Rattle.arith.specs.F64.{_≺_, _≼_, ∞, e-9}
 use Rattle.arith.specs.Num.{abs, isFinite}
 use Rattle.section.specs.Vertices.{hit, count, vertexAt, any}
 use Rattle.section.specs.declared.shapes.CollisionHit.{CollisionHit}
-use Rattle.section.specs.declared.shapes.Vertex.{Vertex}
 use Rattle.section.specs.declared.shapes.Answer.{Answer}
 use Rattle.section.specs.declared.shapes.Answer.the-variants.{Hit, Refused}
 

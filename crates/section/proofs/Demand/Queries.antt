@@ -2,7 +2,7 @@
 use Prim.Native.Nat.{ℕ, zero, suc}
 use mathlib.Core.Bool.{not}
 use mathlib.Core.List.{List, [], _∷_, _++_}
-use mathlib.Core.Path.{_≡_, refl}
+use mathlib.Core.Path.{_≡_, refl, subst, sym}
 use lib.Dec.{T, leb}
 use lib.Ieee.{Float}
 use Rattle.arith.specs.declared.vector.Vec3.{Vec3}
@@ -13,6 +13,7 @@ use Rattle.section.specs.Demand.{Bounded, BoundedOffAxis, OfHit, UpTo}
 use Rattle.section.specs.Points.{meridian, pointDistance, sphereDistance}
 use Rattle.section.specs.Refusals.{boxRefusal, convexRefusal, fewer, pointNumbers, pointRefusal, sphereRefusal}
 use Rattle.section.specs.declared.shapes.Aabb.{Aabb}
+use Rattle.section.specs.declared.shapes.Answer.{Answer}
 use Rattle.section.specs.declared.shapes.CollisionHit.{CollisionHit}
 use Rattle.section.specs.declared.shapes.Sphere.{Sphere}
 use Rattle.section.proofs.Demand.Accepted.{query-taken, section-taken, taken-vertices}
@@ -88,3 +89,7 @@ convex-demand c s =
     both : All (λ (l : List Float). T (not (fewer 3 l))) (c ∷ s ∷ []) → All (UpTo 20) c → All (UpTo 20) s
         → Bounded (convexDistance c s)
     both (cons h (cons k nil)) C S = hit-bounded (convex-upTo (taken-vertices h C) (taken-vertices k S)) tt
+
+-- what is shown of an answer holds of a result that equals it
+pub answered : (P : CollisionHit → Type 0) {r a : Answer} → OfHit P a → r ≡ a → (r ≡ a) × OfHit P r
+answered P d e = (e, subst (λ (x : Answer). OfHit P x) (sym e) d)

@@ -1,0 +1,169 @@
+//! Times the Rust with libm's hypot, the Rust with the exact one, and the port: same process, same inputs.
+//! Prints a markdown table of medians. Usage: bench [MILLISECONDS PER SAMPLE]
+
+use checks::judge::vertices;
+use checks::random::Random;
+use jorghipa::{Point, Rectangle, Sphere};
+use std::hint::black_box;
+use std::time::{Duration, Instant};
+
+const SAMPLES: usize = 15;
+const BODIES: usize = 64;
+
+/// Something to time: runs over all inputs once and returns how many calls that were.
+type Run<'a> = Box<dyn FnMut() -> usize + 'a>;
+
+/// The three ways of the same calls, side by side.
+struct Row<'a> {
+    name: String,
+    vertices: usize,
+    ways: [Run<'a>; 3],
+}
+
+/// Nanoseconds per call, for at least this long.
+fn sample(run: &mut Run, least: Duration) -> f64 {
+    let (start, mut calls) = (Instant::now(), 0);
+    while start.elapsed() < least {
+        calls += run();
+    }
+    start.elapsed().as_nanos() as f64 / calls as f64
+}
+
+/// The medians of the three, sampled in turn so that all meet the same conditions.
+fn medians(row: &mut Row, least: Duration) -> [f64; 3] {
+    let mut times = [const { Vec::new() }; 3];
+    for _ in 0..SAMPLES {
+        for (way, times) in row.ways.iter_mut().zip(&mut times) {
+            times.push(sample(way, least));
+        }
+    }
+    times.map(|mut times| {
+        times.sort_by(f64::total_cmp);
+        times[SAMPLES / 2]
+    })
+}
+
+/// A stepped bar of `count` vertices, z and radius in turn.
+fn section(count: usize) -> Vec<f64> {
+    let steps = count - 2;
+    let mut list: Vec<f64> = (0..steps)
+        .flat_map(|i| [200.0 * (i / 2 * 2) as f64 / steps as f64, 10.0 + 7.3 * (i.div_ceil(2) % 5) as f64])
+        .collect();
+    let last = list[list.len() - 2];
+    list.extend([last, 0.0, 0.0, 0.0]);
+    list
+}
+
+/// An octagon about (z, r).
+fn octagon(z: f64, r: f64) -> Vec<f64> {
+    (0..8).flat_map(|i| [z + 3.0 * (0.785 * f64::from(i)).cos(), r + 3.0 * (0.785 * f64::from(i)).sin()]).collect()
+}
+
+/// Runs `call` on every input.
+fn over<'a, T, R>(inputs: &'a [T], mut call: impl FnMut(&'a T) -> R + 'a) -> Run<'a> {
+    Box::new(move || {
+        for input in inputs {
+            black_box(call(black_box(input)));
+        }
+        inputs.len()
+    })
+}
+
+macro_rules! rust {
+    ($copy:ident, $solid:expr, $points:expr, $bodies:expr) => {{
+        use $copy::{Vec3, aabb_polygon_distance, convex_polygon_distance};
+        let (solid, points) = ($solid, $points);
+        [
+            over($bodies, move |b: &Body| solid.signed_distance(Vec3::new(b.x, b.y, b.z))),
+            over($bodies, move |b: &Body| solid.signed_distance(Vec3::new(b.x, b.y, b.z)).map(|d| d - b.radius)),
+            over($bodies, move |b: &Body| aabb_polygon_distance(b.z, b.z + 5.0, b.x, b.x + b.radius, points)),
+            over($bodies, move |b: &Body| convex_polygon_distance(&b.corners, points)),
+        ]
+    }};
+}
+
+/// Where the bodies stand: about the section, most of them outside.
+struct Body {
+    x: f64,
+    y: f64,
+    z: f64,
+    radius: f64,
+    octagon: Vec<f64>,
+    corners: Vec<(f64, f64)>,
+}
+
+fn body(random: &mut Random) -> Body {
+    let (x, y, z) = (random.between(5.0, 80.0), random.between(0.0, 40.0), random.between(-40.0, 240.0));
+    let octagon = octagon(z, x);
+    Body { x, y, z, radius: random.between(0.5, 8.0), corners: vertices(&octagon), octagon }
+}
+
+fn queries(least: Duration) {
+    let mut random = Random::new(1, 0);
+    let bodies: Vec<Body> = (0..BODIES).map(|_| body(&mut random)).collect();
+    for count in [4, 16, 64, 256] {
+        let list = section(count);
+        assert_eq!(list.len(), 2 * count);
+        let (list, points) = (list.as_slice(), vertices(&list));
+        let (libm, exact) = (revolve_libm::probe::solid(&points), revolve_exact::probe::solid(&points));
+        let port: [Run; 4] = [
+            over(&bodies, move |b| jorghipa::point(list, Point { x: b.x, y: b.y, z: b.z })),
+            over(&bodies, move |b| {
+                jorghipa::sphere(list, Sphere { center: Point { x: b.x, y: b.y, z: b.z }, radius: b.radius })
+            }),
+            over(&bodies, move |b| {
+                jorghipa::rectangle(list, Rectangle { z0: b.z, z1: b.z + 5.0, r0: b.x, r1: b.x + b.radius })
+            }),
+            over(&bodies, move |b| jorghipa::convex(&b.octagon, list)),
+        ];
+        let libm = rust!(revolve_libm, &libm, &points, &bodies);
+        let exact = rust!(revolve_exact, &exact, &points, &bodies);
+        let names = ["point", "sphere", "box", "convex, 8 corners"];
+        for (((name, libm), exact), port) in names.into_iter().zip(libm).zip(exact).zip(port) {
+            print_row(Row { name: name.into(), vertices: count, ways: [libm, exact, port] }, least);
+        }
+    }
+}
+
+fn roots(least: Duration) {
+    let mut random = Random::new(2, 0);
+    let pairs: Vec<(f64, f64)> = (0..1024).map(|_| (random.between(-50.0, 150.0), random.between(0.0, 60.0))).collect();
+    let hypots: [fn(f64, f64) -> f64; 3] = [|a, b| f64::hypot(a, b), |a, b| exact_hypot::hypot(a, b), jorghipa::hypot];
+    let squares: [fn(f64) -> f64; 3] = [|x| f64::sqrt(x), |x| exact_hypot::sqrt(x), jorghipa::sqrt];
+    let ways = hypots.map(|hypot| over(&pairs, move |&(a, b)| hypot(a, b)));
+    print_row(Row { name: "hypot, throughput".into(), vertices: 0, ways }, least);
+    let ways = hypots.map(|hypot| {
+        let mut x = 1.0;
+        over(&pairs, move |&(_, b)| {
+            x = hypot(x, b) * 0.7;
+            x
+        })
+    });
+    print_row(Row { name: "hypot, chained".into(), vertices: 0, ways }, least);
+    let ways = squares.map(|sqrt| over(&pairs, move |&(_, b)| sqrt(b)));
+    print_row(Row { name: "sqrt, throughput".into(), vertices: 0, ways }, least);
+    let ways = squares.map(|sqrt| {
+        let mut x = 1.0;
+        over(&pairs, move |&(_, b)| {
+            x = sqrt(x + b);
+            x
+        })
+    });
+    print_row(Row { name: "sqrt, chained".into(), vertices: 0, ways }, least);
+}
+
+fn print_row(mut row: Row, least: Duration) {
+    let [libm, exact, port] = medians(&mut row, least);
+    let vertices = if row.vertices == 0 { String::new() } else { row.vertices.to_string() };
+    println!("| {} | {vertices} | {libm:.1} | {exact:.1} | {port:.1} | {:.2} |", row.name, port / libm);
+}
+
+fn main() {
+    let milliseconds = std::env::args().nth(1).and_then(|word| word.parse().ok()).unwrap_or(20);
+    let least = Duration::from_millis(milliseconds);
+    println!("Median of {SAMPLES} samples of {milliseconds} ms, in nanoseconds per call.\n");
+    println!("| call | vertices | Rust, libm's hypot | Rust, exact hypot | port | port / Rust with libm |");
+    println!("|---|---:|---:|---:|---:|---:|");
+    queries(least);
+    roots(least);
+}

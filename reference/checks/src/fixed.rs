@@ -1,0 +1,137 @@
+//! The fixed list: queries of every kind and every refusal, from a seed, with the Rust's answers (or the table's).
+
+use crate::query::{Answer, Kind, Query};
+use crate::random::Random;
+use crate::{generate, judge, near};
+use std::collections::BTreeMap;
+
+/// Accepted queries of each kind that are drawn at random, and queries at each threshold.
+const RANDOM: usize = 280;
+const NEAR: usize = 12;
+/// Refusals of each kind with each number.
+const REFUSALS: usize = 3;
+/// Most numbers in the lists of a small query, of which there are many, and of any query.
+const SMALL: usize = 24;
+const LARGEST: usize = 600;
+
+/// The numbers that a kind can be refused with.
+pub fn refusals(kind: Kind) -> &'static [u32] {
+    match kind {
+        Kind::Sqrt | Kind::Hypot => &[],
+        Kind::Point | Kind::Convex | Kind::VerdictConvex => &[1, 2, 3, 4, 5],
+        Kind::Sphere | Kind::VerdictSphere => &[1, 2, 3, 4, 5, 9],
+        Kind::Box | Kind::VerdictBox => &[1, 2, 3, 4, 5, 10],
+        Kind::Section => &[1, 2, 3, 4, 5, 6, 7, 8],
+        Kind::Polygon => &[1, 2, 3, 4, 5, 7, 8],
+        Kind::Cylinder | Kind::VerdictCylinder => &[1, 2, 3, 4, 5, 9, 11],
+    }
+}
+
+/// Document 01's readings on its section S, and its other examples.
+fn readings() -> Vec<Query> {
+    let s = vec![0.0, 10.0, 20.0, 10.0, 20.0, 0.0, 0.0, 0.0];
+    let axis = vec![0.0, 0.0, 20.0, 0.0, 0.0, 0.0];
+    let query = |kind, numbers: &[f64]| Query::new(kind, std::slice::from_ref(&s), numbers);
+    let mut all = vec![
+        Query::new(Kind::Hypot, &[], &[0.5, 0.3]),
+        query(Kind::Point, &[0.0, 0.0, 10.0]),
+        query(Kind::Point, &[3.0, 4.0, 30.0]),
+        query(Kind::Point, &[5.0, 0.0, 20.0]),
+        Query::new(Kind::Point, &[axis], &[1.0, 2.0, 3.0]),
+        query(Kind::Point, &[0.0, 0.0, 1_048_576.0]),
+        query(Kind::Point, &[0.0, 0.0, 1_048_577.0]),
+        query(Kind::Sphere, &[0.0, 0.0, 30.0, 4.0]),
+        query(Kind::Sphere, &[0.0, 0.0, 30.0, -1.0]),
+        query(Kind::Box, &[25.0, 30.0, 0.0, 5.0]),
+        query(Kind::Box, &[18.0, 30.0, 0.0, 5.0]),
+        query(Kind::Box, &[20.0, 25.0, 0.0, 5.0]),
+        query(Kind::Box, &[-5.0, 25.0, 5.0, 15.0]),
+        query(Kind::Box, &[5.0, 6.0, -3.0, -2.0]),
+        query(Kind::Box, &[5.0, 4.0, 0.0, 5.0]),
+        Query::new(Kind::Convex, &[vec![25.0, 5.0, 25.0 + 1e-12, 5.0, 25.0, 5.0 + 1e-12], s.clone()], &[]),
+        Query::builder(Kind::Section, vec![0.0, 10.0, 20.0, 10.0], 8),
+        Query::builder(Kind::Section, vec![0.0, 0.0, 20.0, 0.0], 8),
+        Query::builder(Kind::Section, vec![0.0, 10.0, 20.0, 10.0, 20.0 + 5e-13, 10.0], 10),
+        Query::builder(Kind::Section, vec![0.0, -1e-9, 20.0, 10.0], 8),
+        Query::builder(Kind::Section, vec![0.0, -0.0, 20.0, 10.0], 8),
+        Query::builder(Kind::Section, vec![0.0, 10.0, 20.0, 10.0], 6),
+        Query::builder(Kind::Section, vec![0.0, 10.0, 0.0, 0.0], 8),
+        Query::builder(Kind::Section, vec![0.0, -1.0, 20.0, 10.0], 8),
+        Query::builder(Kind::Section, vec![0.0, 10.0], 8),
+        Query::builder(Kind::Section, vec![0.0, 10.0, 20.0], 8),
+        Query::builder(Kind::Polygon, vec![0.0, -1.0, 1.0, 1.0, 2.0, 0.0, 0.0, -1.0], 8),
+    ];
+    if cfg!(feature = "cylinders") {
+        for numbers in [
+            [15.0, 0.0, 0.0, 15.0, 0.0, 30.0, 2.0],
+            [12.0, 0.0, 10.0, 30.0, 0.0, 10.0, 0.0],
+            [12.0, 0.0, 10.0, 30.0, 0.0, 10.0, 2f64.powi(-30)],
+            [12.0, 0.0, 10.0, 30.0, 0.0, 10.0, 2.0],
+            [4.0, 8.0, 21.5, 24.0, 8.0, 21.5, 4.0],
+            [0.0, 0.0, 10.0, 30.0, 0.0, 10.0, 1.0],
+            [0.0, 0.0, -1048576.0, 30.0, 0.0, -1048576.0, 1048576.0],
+            [0.0, 0.0, 0.0, 1.0, 0.0, 1.0, 1.0],
+        ] {
+            all.push(query(Kind::Cylinder, &numbers));
+        }
+    }
+    all
+}
+
+/// Everything that the list holds, in order of kind.
+pub fn queries(seed: u64) -> Vec<Query> {
+    let mut all = readings();
+    for kind in Kind::all() {
+        for (i, threshold) in near::thresholds(kind).iter().enumerate() {
+            let mut random = Random::new(seed, 1 + i as u64 + 100 * kind as u64);
+            all.extend((0..NEAR).map(|_| threshold.query(&mut random)));
+        }
+        all.extend(drawn(&mut Random::new(seed, 100 * kind as u64), kind));
+    }
+    all.sort_by_key(|query| query.kind);
+    all
+}
+
+/// Small queries, a large one where the kind has them, and every refusal.
+fn drawn(random: &mut Random, kind: Kind) -> Vec<Query> {
+    let (mut all, mut refused) = (Vec::new(), BTreeMap::new());
+    let (mut small, mut large) = (0, matches!(kind, Kind::Sqrt | Kind::Hypot) || kind >= Kind::Cylinder);
+    let complete = |refused: &BTreeMap<u32, usize>| {
+        refusals(kind).iter().all(|number| refused.get(number).is_some_and(|&count| count >= REFUSALS))
+    };
+    while small < RANDOM || !large || !complete(&refused) {
+        let query = generate::query(random, kind);
+        let numbers = query.lists.iter().map(Vec::len).sum::<usize>();
+        let keep = match judge::expected(&query) {
+            _ if numbers > LARGEST => false,
+            Answer::Refused(number) => {
+                let count = refused.entry(number).or_default();
+                *count += 1;
+                *count <= REFUSALS
+            }
+            _ if numbers <= SMALL => {
+                small += 1;
+                small <= RANDOM
+            }
+            _ => {
+                let first = !large && numbers > 128;
+                large |= first;
+                first
+            }
+        };
+        if keep {
+            all.push(query);
+        }
+    }
+    all
+}
+
+pub fn write(seed: u64, list: &str, answers: &str) -> Result<(), String> {
+    let queries = queries(seed);
+    let text = |line: fn(&Query) -> String| queries.iter().map(|query| line(query) + "\n").collect::<String>();
+    let save = |path: &str, text: String| std::fs::write(path, text).map_err(|error| format!("{path}: {error}"));
+    save(list, text(Query::line))?;
+    save(answers, text(|query| judge::expected(query).line()))?;
+    println!("seed {seed}: {} queries", queries.len());
+    Ok(())
+}

@@ -1,0 +1,181 @@
+//! Bodies: aimed at a vertex or an edge of the section, with gaps of every size, or anywhere.
+
+use super::{SMALL, Style, sections};
+use crate::query::Kind;
+use crate::random::Random;
+
+type Vertex = (f64, f64);
+
+fn limited(x: f64) -> f64 {
+    x.clamp(-table::LIMIT, table::LIMIT)
+}
+
+/// A gap of either sign: none, about a threshold, or ordinary.
+fn gap(random: &mut Random) -> f64 {
+    let size = match random.below(4) {
+        0 => 0.0,
+        1 => {
+            let small = random.pick(&SMALL);
+            random.near(small)
+        }
+        2 => random.size(-12, -8),
+        _ => random.pick(&[0.125, 0.5, 1.0, 2.0, 3.7, 10.0]),
+    };
+    random.sign(size)
+}
+
+/// A place at or beside the section: a vertex, a point of an edge, a middle, or anywhere; moved by a gap.
+fn target(random: &mut Random, style: Style, section: &[Vertex]) -> Vertex {
+    let i = random.below(section.len());
+    let (a, b) = (section[i], section[(i + 1) % section.len()]);
+    let along = random.pick(&[0.0, 0.25, 0.5, 0.75, 0.3, 0.999]);
+    let (z, r) = match random.below(6) {
+        0 => a,
+        1 | 2 => (a.0 + (b.0 - a.0) * along, a.1 + (b.1 - a.1) * along),
+        3 => {
+            let c = section[random.below(section.len())];
+            ((a.0 + b.0 + c.0) / 3.0, (a.1 + b.1 + c.1) / 3.0)
+        }
+        4 => (a.0 + (b.0 - a.0) * along, random.pick(&SMALL)),
+        _ => (style.coordinate(random), style.radius(random)),
+    };
+    let (dz, dr) = (gap(random), gap(random));
+    match random.below(4) {
+        0 => (limited(z), limited(r)),
+        1 => (limited(z + dz), limited(r)),
+        2 => (limited(z), limited(r + dr)),
+        _ => (limited(z + dz), limited(r + dr)),
+    }
+}
+
+/// x and y at this radius.
+fn spread(random: &mut Random, radius: f64) -> (f64, f64) {
+    match random.below(5) {
+        0 => (radius, 0.0),
+        1 => (0.0, radius),
+        2 => (-radius, -0.0),
+        3 => (radius * 0.6, radius * 0.8),
+        _ => {
+            let angle = random.between(0.0, 6.3);
+            (radius * angle.cos(), radius * angle.sin())
+        }
+    }
+}
+
+/// The numbers of a point, sphere, box or cylinder.
+pub fn body(random: &mut Random, style: Style, kind: Kind, section: &[Vertex]) -> Vec<f64> {
+    match kind {
+        Kind::Point => {
+            let (z, r) = target(random, style, section);
+            let (x, y) = spread(random, r);
+            vec![x, y, z]
+        }
+        Kind::Sphere | Kind::VerdictSphere => {
+            let (z, r) = target(random, style, section);
+            let (x, y) = spread(random, r);
+            vec![x, y, z, size(random)]
+        }
+        Kind::Box | Kind::VerdictBox => rectangle(random, style, section).to_vec(),
+        _ => cylinder(random, style, section),
+    }
+}
+
+/// A radius, a width or a height.
+fn size(random: &mut Random) -> f64 {
+    match random.below(4) {
+        0 => random.pick(&SMALL).abs(),
+        1 => random.size(-9, 1),
+        2 => random.whole(0, 160) as f64 / 8.0,
+        _ => random.between(0.0, 30.0),
+    }
+}
+
+/// A box with a side, a corner or its middle at the target, or one around most of the section.
+fn rectangle(random: &mut Random, style: Style, section: &[Vertex]) -> [f64; 4] {
+    let (z, r) = target(random, style, section);
+    let (z, r) = (z, if random.chance(1, 10) { r } else { r.abs() });
+    let (w, h) = (size(random), size(random));
+    let (z0, z1) = match random.below(4) {
+        0 => (z, z + w),
+        1 => (z - w, z),
+        2 => (z - w, z + w),
+        _ => ordered(z, section[random.below(section.len())].0 + gap(random)),
+    };
+    let (r0, r1) = match random.below(5) {
+        0 => (r, r + h),
+        1 => (r - h, r),
+        2 => (r - h, r + h),
+        3 => (0.0, r.max(0.0)),
+        _ => ordered(r, section[random.below(section.len())].1 + gap(random)),
+    };
+    let r0 = if random.chance(1, 6) { r0 } else { r0.max(0.0) };
+    [limited(z0), limited(z1), limited(r0), limited(r1.max(r0))]
+}
+
+fn ordered(a: f64, b: f64) -> (f64, f64) {
+    if a <= b { (a, b) } else { (b, a) }
+}
+
+/// A body for the convex query: triangles, boxes and rounds, tiny ones, and any polygon, also a self-crossing one.
+pub fn convex(random: &mut Random, style: Style, section: &[Vertex]) -> Vec<Vertex> {
+    let (z, r) = target(random, style, section);
+    let body = match random.below(6) {
+        0 => {
+            let [z0, z1, r0, r1] = rectangle(random, style, section);
+            vec![(z0, r0), (z1, r0), (z1, r1), (z0, r1)]
+        }
+        1 => {
+            let size = size(random);
+            vec![(z, r), (z + size, r), (z + size * 0.5, r + size)]
+        }
+        2 | 3 => {
+            let (count, radius) = (sections::count(random, 3, 40), size(random));
+            let angle = |i: usize| i as f64 / count as f64 * std::f64::consts::TAU;
+            (0..count).map(|i| (z + radius * angle(i).cos(), r + radius * angle(i).sin())).collect()
+        }
+        4 => {
+            let count = sections::count(random, 3, 12);
+            (0..count).map(|_| (z + gap(random), r + gap(random))).collect()
+        }
+        _ => sections::section(random, style, 40),
+    };
+    let body = body.into_iter().map(|(z, r)| (limited(z), limited(r))).collect();
+    sections::rotated(random, body)
+}
+
+/// Along or across the spindle, a little tilted, or of no length. One in 200 has to be walked: that takes long.
+fn cylinder(random: &mut Random, style: Style, section: &[Vertex]) -> Vec<f64> {
+    let (z, r) = target(random, style, section);
+    let (x, y) = spread(random, r);
+    let length: f64 = random.pick(&[0.0, 1e-12, 1e-3, 1.0, 8.0, 30.0, 500.0]);
+    let tilt = random.pick(&[0.0, 0.0, 0.0, 1e-9, 1e-8, 1.4e-4, 1.5e-4]);
+    let (ends, radius) = match random.below(200) {
+        0 => ([x, y, z, x + length.max(1e-3), y, z], size(random)),
+        1..=40 => ([x, y, z, x + length, y, z + length * tilt], random.pick(&[0.0, 5e-324, 1e-16, 1e-15])),
+        41..=60 => ([x, y, z, x + length, y + length * tilt, z], random.pick(&[0.0, 1e-15])),
+        _ => ([x, y, z, x + length * tilt, y, z + length], size(random)),
+    };
+    let mut ends = ends.map(limited);
+    if random.chance(1, 2) {
+        ends.rotate_left(3);
+    }
+    ends.into_iter().chain([radius]).collect()
+}
+
+/// Any f64 at all: every pattern, an ordinary number, or a small or special one.
+pub fn any(random: &mut Random) -> f64 {
+    match random.below(8) {
+        0..=2 => f64::from_bits(random.bits()),
+        3..=5 => random.between(-100.0, 100.0),
+        6 => Style::Mixed.coordinate(random),
+        _ => random.pick(&[0.0, -0.0, 5e-324, f64::MIN_POSITIVE, f64::MAX, f64::INFINITY, f64::NAN, 1.0, -1.0]),
+    }
+}
+
+/// Two numbers for hypot, mostly of nearly the same size.
+pub fn pair(random: &mut Random) -> [f64; 2] {
+    let a = any(random);
+    let b = if random.chance(1, 3) { any(random) } else { a * random.between(-2.0, 2.0) };
+    let shift = if random.chance(1, 4) { 2f64.powi(-random.whole(20, 30) as i32) } else { 1.0 };
+    if random.chance(1, 2) { [a, b * shift] } else { [b * shift, a] }
+}

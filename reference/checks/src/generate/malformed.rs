@@ -1,0 +1,114 @@
+//! Queries that are to be refused, each for one reason or for several at once.
+
+use crate::query::{Kind, Query};
+use crate::random::Random;
+
+const BAD: [f64; 12] = [
+    f64::NAN,
+    f64::INFINITY,
+    f64::NEG_INFINITY,
+    f64::MAX,
+    f64::MIN,
+    1_048_577.0,
+    -1_048_577.0,
+    1_048_576.000_000_000_2,
+    -1_048_576.000_000_000_2,
+    1e300,
+    -2e6,
+    4e9,
+];
+
+pub fn spoil(random: &mut Random, query: &mut Query) {
+    for _ in 0..1 + random.below(8) / 6 {
+        match random.below(8) {
+            0 => odd(random, query),
+            1 => short(random, query),
+            2 => long(random, query),
+            3 | 4 => bad_number(random, query),
+            _ => bad_body(random, query),
+        }
+    }
+}
+
+fn some_list<'a>(random: &mut Random, query: &'a mut Query) -> &'a mut Vec<f64> {
+    let i = random.below(query.lists.len());
+    &mut query.lists[i]
+}
+
+fn odd(random: &mut Random, query: &mut Query) {
+    let more = random.chance(1, 2);
+    let list = some_list(random, query);
+    if more {
+        list.push(1.0);
+    } else {
+        list.pop();
+    }
+}
+
+fn short(random: &mut Random, query: &mut Query) {
+    let length = random.pick(&[0, 1, 2, 3, 4]);
+    some_list(random, query).truncate(length);
+}
+
+/// One vertex too many, or more; with an odd count too.
+fn long(random: &mut Random, query: &mut Query) {
+    let length = random.pick(&[510, 511, 512, 513, 514, 516, 1024]);
+    let list = some_list(random, query);
+    let old = list.len().max(1);
+    list.resize(old, 0.0);
+    for i in old..length {
+        list.push(list[i % old]);
+    }
+    if query.kind.is_builder() {
+        query.space = random.pick(&[length + 4, length + 9, 4]);
+    }
+}
+
+/// NaN (with any payload), an infinity or a number past the limit, anywhere.
+fn bad_number(random: &mut Random, query: &mut Query) {
+    let mut bad = random.pick(&BAD);
+    if bad.is_nan() {
+        bad = f64::from_bits(0x7ff0_0000_0000_0001 | random.bits() & 0x800f_ffff_ffff_ffff);
+    }
+    let places = query.lists.iter().map(Vec::len).sum::<usize>() + query.numbers.len();
+    if places == 0 {
+        return;
+    }
+    let place = if random.chance(1, 2) { places - 1 - random.below(places.min(7)) } else { random.below(places) };
+    let all = query.lists.iter_mut().flatten().chain(&mut query.numbers);
+    all.enumerate().filter(|(i, _)| *i == place).for_each(|(_, x)| *x = bad);
+}
+
+/// What each kind refuses by itself.
+fn bad_body(random: &mut Random, query: &mut Query) {
+    match query.kind {
+        Kind::Sphere | Kind::VerdictSphere => {
+            let radius = random.pick(&[-1.0, -5e-324, -1e-9, -3e6]);
+            query.numbers[3] = radius;
+        }
+        Kind::Cylinder | Kind::VerdictCylinder if random.chance(1, 2) => query.numbers[6] = -random.size(-9, 1),
+        Kind::Cylinder | Kind::VerdictCylinder => query.numbers[1] += random.pick(&[1.0, 1e-3, -7.0]),
+        Kind::Box | Kind::VerdictBox => {
+            let side = 2 * random.below(2);
+            query.numbers.swap(side, side + 1);
+        }
+        Kind::Section | Kind::Polygon if random.chance(1, 2) => {
+            query.space = query.lists[0].len().saturating_sub(random.below(5)) + random.below(5);
+        }
+        Kind::Section | Kind::Polygon if random.chance(1, 2) => {
+            // All points alike: too few are kept.
+            let list = &mut query.lists[0];
+            for i in 2..list.len() {
+                list[i] = list[i % 2];
+            }
+        }
+        Kind::Section => {
+            let list = &mut query.lists[0];
+            let vertex = random.below((list.len() / 2).max(1));
+            if let Some(radius) = list.get_mut(2 * vertex + 1) {
+                *radius = random.pick(&[-1.0, -1.1e-9, -1e-8, -50.0]);
+            }
+        }
+        _ => bad_number(random, query),
+    }
+}

@@ -1,0 +1,13 @@
+//! What compare, roots and bench share: queries and answers, the judge, the port, and the generators of inputs.
+
+pub mod fixed;
+pub mod generate;
+pub mod judge;
+#[cfg(feature = "mpfr")]
+pub mod mpfr;
+pub mod near;
+pub mod port;
+pub mod query;
+pub mod random;
+pub mod root_cases;
+pub mod shrink;

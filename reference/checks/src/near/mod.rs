@@ -1,0 +1,125 @@
+//! Queries at the thresholds: the number that is compared lies within four neighbours of the threshold.
+//! Faces stand at z = 0 and edges at radius 0 where a difference has to come out to the last digit.
+
+mod body;
+mod builder;
+mod cylinder;
+mod point;
+
+use crate::generate::{self, Style, list, rotated};
+use crate::judge;
+use crate::query::{Answer, Kind, Query};
+use crate::random::{Random, within_four};
+
+/// A query, the number that is compared in it, and what with.
+pub struct Near {
+    query: Query,
+    number: f64,
+    threshold: f64,
+}
+
+type Make = fn(&mut Random, Kind) -> Near;
+
+pub struct Threshold {
+    pub kind: Kind,
+    pub name: &'static str,
+    make: Make,
+}
+
+impl Threshold {
+    /// A query at this threshold.
+    pub fn query(&self, random: &mut Random) -> Query {
+        loop {
+            let near = (self.make)(random, self.kind);
+            if within_four(near.number, near.threshold) {
+                return near.query;
+            }
+        }
+    }
+}
+
+/// Every threshold of a kind.
+pub fn thresholds(kind: Kind) -> Vec<Threshold> {
+    let makes: Vec<(&'static str, Make)> = match kind {
+        Kind::Sqrt | Kind::Hypot => return Vec::new(),
+        Kind::Point => point::POINT.to_vec(),
+        Kind::Sphere => [point::POINT, point::SPHERE].concat(),
+        Kind::Box => body::BOX.to_vec(),
+        Kind::Convex => body::CONVEX.to_vec(),
+        Kind::Section => builder::SECTION.to_vec(),
+        Kind::Polygon => builder::POLYGON.to_vec(),
+        Kind::Cylinder => cylinder::CYLINDER.to_vec(),
+        _ => vec![("clearance", clearance)],
+    };
+    let limit: (&'static str, Make) = ("limit 1,048,576", limit);
+    makes.into_iter().chain([limit]).map(|(name, make)| Threshold { kind, name, make }).collect()
+}
+
+/// Any number of a query at the limit.
+fn limit(random: &mut Random, kind: Kind) -> Near {
+    let mut query = generate::drawn(random, kind);
+    let number = random.near(table::LIMIT);
+    let places = query.lists.iter().map(Vec::len).sum::<usize>() + query.numbers.len();
+    let place = if random.chance(1, 2) { places - 1 - random.below(places.min(7)) } else { random.below(places) };
+    let signed = random.sign(number);
+    let all = query.lists.iter_mut().flatten().chain(&mut query.numbers);
+    all.enumerate().filter(|(i, _)| *i == place).for_each(|(_, x)| *x = signed);
+    Near { query, number, threshold: table::LIMIT }
+}
+
+/// A clearance beside the distance.
+fn clearance(random: &mut Random, kind: Kind) -> Near {
+    loop {
+        let mut query = generate::drawn(random, kind);
+        let last = query.numbers.len() - 1;
+        let base = match kind {
+            Kind::VerdictSphere => Kind::Sphere,
+            Kind::VerdictBox => Kind::Box,
+            Kind::VerdictCylinder => Kind::Cylinder,
+            _ => Kind::Convex,
+        };
+        let body = Query { kind: base, numbers: query.numbers[..last].to_vec(), ..query.clone() };
+        let distance = match judge::expected(&body) {
+            Answer::Values(values) => values[0],
+            Answer::Walked(hit, _) => hit[0],
+            _ => continue,
+        };
+        let threshold = distance + 1e-9;
+        query.numbers[last] = random.near(threshold);
+        return Near { number: query.numbers[last], threshold, query };
+    }
+}
+
+/// A bar with its left face at z = 0: length, then radii from the spindle up to the profile.
+/// Radii are at least 1 and lengths at least 2, both in eighths.
+fn bar(random: &mut Random) -> Vec<(f64, f64)> {
+    let eighths = |random: &mut Random, low| random.whole(low, 400) as f64 / 8.0;
+    let (length, radius) = (eighths(random, 16), eighths(random, 8));
+    let mut bar = vec![(0.0, 0.0), (0.0, radius)];
+    if random.chance(1, 2) {
+        bar.push((length * 0.5, radius));
+        bar.push((length * 0.5, eighths(random, 8)));
+        let last = bar[3].1;
+        bar.push((length, last));
+    } else {
+        bar.push((length, radius));
+    }
+    bar.push((length, 0.0));
+    bar
+}
+
+/// The same bar seen from the other side of z = 0, or from below the spindle.
+fn mirrored(section: &mut [(f64, f64)], z: bool, radius: bool) {
+    for vertex in section {
+        vertex.0 = if z { -vertex.0 } else { vertex.0 };
+        vertex.1 = if radius { -vertex.1 } else { vertex.1 };
+    }
+}
+
+/// The list of a section, from any vertex on and either way round.
+fn turned(random: &mut Random, section: Vec<(f64, f64)>) -> Vec<f64> {
+    list(&rotated(random, section))
+}
+
+/// Sizes of drawings only.
+const DRAWING: Style = Style::Drawing;

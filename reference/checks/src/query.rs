@@ -1,0 +1,243 @@
+//! A query and an answer, and their lines in the fixed list.
+
+use std::fmt::Write;
+
+#[derive(Clone, Copy, Debug, PartialEq, Eq, PartialOrd, Ord, Hash)]
+pub enum Kind {
+    Sqrt,
+    Hypot,
+    Point,
+    Sphere,
+    Box,
+    Convex,
+    Section,
+    Polygon,
+    Cylinder,
+    VerdictSphere,
+    VerdictBox,
+    VerdictCylinder,
+    VerdictConvex,
+}
+
+/// Every kind, its letters in the list, how many lists it takes and how many numbers after them.
+const KINDS: [(Kind, &str, usize, usize); 13] = [
+    (Kind::Sqrt, "r", 0, 1),
+    (Kind::Hypot, "h", 0, 2),
+    (Kind::Point, "p", 1, 3),
+    (Kind::Sphere, "s", 1, 4),
+    (Kind::Box, "b", 1, 4),
+    (Kind::Convex, "c", 2, 0),
+    (Kind::Section, "S", 1, 0),
+    (Kind::Polygon, "P", 1, 0),
+    (Kind::Cylinder, "y", 1, 7),
+    (Kind::VerdictSphere, "vs", 1, 5),
+    (Kind::VerdictBox, "vb", 1, 5),
+    (Kind::VerdictCylinder, "vy", 1, 8),
+    (Kind::VerdictConvex, "vc", 2, 1),
+];
+
+impl Kind {
+    /// The kinds that the linked archive has.
+    pub fn all() -> Vec<Kind> {
+        let count = if cfg!(feature = "cylinders") { 13 } else { 8 };
+        KINDS[..count].iter().map(|entry| entry.0).collect()
+    }
+
+    fn entry(self) -> &'static (Kind, &'static str, usize, usize) {
+        KINDS.iter().find(|entry| entry.0 == self).expect("every kind is listed")
+    }
+
+    pub fn letters(self) -> &'static str {
+        self.entry().1
+    }
+
+    pub fn is_builder(self) -> bool {
+        matches!(self, Kind::Section | Kind::Polygon)
+    }
+}
+
+/// What fills the lent space before a builder is called.
+pub const FILL: u64 = 0x4059_0000_0000_0000;
+
+/// The lists come first: a convex body's, then the section's. `space` is a builder's, in numbers.
+#[derive(Clone, Debug)]
+pub struct Query {
+    pub kind: Kind,
+    pub lists: Vec<Vec<f64>>,
+    pub numbers: Vec<f64>,
+    pub space: usize,
+}
+
+impl Query {
+    pub fn new(kind: Kind, lists: &[Vec<f64>], numbers: &[f64]) -> Query {
+        Query { kind, lists: lists.to_vec(), numbers: numbers.to_vec(), space: 0 }
+    }
+
+    pub fn builder(kind: Kind, points: Vec<f64>, space: usize) -> Query {
+        Query { kind, lists: vec![points], numbers: Vec::new(), space }
+    }
+
+    pub fn array<const N: usize>(&self) -> [f64; N] {
+        self.numbers[..N].try_into().expect("a query has its kind's numbers")
+    }
+
+    pub fn line(&self) -> String {
+        let mut line = String::from(self.kind.letters());
+        for list in &self.lists {
+            write!(line, " {:04x}", list.len()).unwrap();
+            list.iter().for_each(|&x| push(&mut line, input_bits(x)));
+        }
+        self.numbers.iter().for_each(|&x| push(&mut line, input_bits(x)));
+        if self.kind.is_builder() {
+            write!(line, " {:04x}", self.space).unwrap();
+        }
+        line
+    }
+
+    pub fn parse(line: &str) -> Option<Query> {
+        let mut fields = line.split(' ');
+        let letters = fields.next()?;
+        let &(kind, _, lists, numbers) = KINDS.iter().find(|entry| entry.1 == letters)?;
+        let mut query = Query::new(kind, &[], &[]);
+        let number =
+            |fields: &mut std::str::Split<char>| Some(f64::from_bits(u64::from_str_radix(fields.next()?, 16).ok()?));
+        for _ in 0..lists {
+            let count = usize::from_str_radix(fields.next()?, 16).ok()?;
+            query.lists.push((0..count).map(|_| number(&mut fields)).collect::<Option<_>>()?);
+        }
+        query.numbers = (0..numbers).map(|_| number(&mut fields)).collect::<Option<_>>()?;
+        if kind.is_builder() {
+            query.space = usize::from_str_radix(fields.next()?, 16).ok()?;
+        }
+        fields.next().is_none().then_some(query)
+    }
+}
+
+fn push(line: &mut String, bits: u64) {
+    write!(line, " {bits:016x}").unwrap();
+}
+
+/// One pattern for every NaN.
+fn input_bits(x: f64) -> u64 {
+    if x.is_nan() { 0x7ff8_0000_0000_0000 } else { x.to_bits() }
+}
+
+/// One pattern for every NaN and one for both zeros.
+fn output_bits(x: f64) -> u64 {
+    if x == 0.0 { 0 } else { input_bits(x) }
+}
+
+#[derive(Clone, Debug)]
+pub enum Answer {
+    Refused(u32),
+    /// Refused, but something that was lent had changed.
+    Spoilt(u32),
+    /// A root, or distance, witness z and witness radius.
+    Values(Vec<f64>),
+    /// How many numbers are kept, and the whole space afterwards.
+    Built(usize, Vec<f64>),
+    /// Distance, witness z and witness radius; boxes, most waiting, cut.
+    Walked([f64; 3], [u32; 3]),
+    /// True is a collision.
+    Verdict(bool),
+}
+
+/// Zeros of both signs are one value, and so is every NaN.
+fn same(a: f64, b: f64) -> bool {
+    output_bits(a) == output_bits(b)
+}
+
+fn all_same(a: &[f64], b: &[f64]) -> bool {
+    a.len() == b.len() && a.iter().zip(b).all(|(&a, &b)| same(a, b))
+}
+
+impl Answer {
+    pub fn refused(&self) -> bool {
+        matches!(self, Answer::Refused(_) | Answer::Spoilt(_))
+    }
+
+    pub fn same(&self, other: &Answer) -> bool {
+        match (self, other) {
+            (Answer::Refused(a), Answer::Refused(b)) => a == b,
+            (Answer::Values(a), Answer::Values(b)) => all_same(a, b),
+            (Answer::Walked(a, m), Answer::Walked(b, n)) => all_same(a, b) && m == n,
+            (Answer::Verdict(a), Answer::Verdict(b)) => a == b,
+            (Answer::Built(m, a), Answer::Built(n, b)) => {
+                // The rest of the space must keep its very bits.
+                let rest = |space: &[f64]| space[*m..].iter().map(|x| x.to_bits()).collect::<Vec<_>>();
+                m == n && all_same(a, b) && rest(a) == rest(b)
+            }
+            _ => false,
+        }
+    }
+
+    /// What the totals call it.
+    pub fn outcome(&self) -> String {
+        match self {
+            Answer::Refused(number) => format!("refused {number}"),
+            Answer::Spoilt(number) => format!("refused {number}, lent places changed"),
+            Answer::Values(values) if values.len() == 3 => side(values[0]).into(),
+            Answer::Values(values) if values[0].is_finite() => "finite".into(),
+            Answer::Values(_) => "not finite".into(),
+            Answer::Built(..) => "built".into(),
+            Answer::Walked(hit, [_, _, 0]) => side(hit[0]).into(),
+            Answer::Walked(..) => "cut".into(),
+            Answer::Verdict(collision) => if *collision { "collision" } else { "clear" }.into(),
+        }
+    }
+
+    pub fn line(&self) -> String {
+        let hex = |values: &[f64]| {
+            let words: Vec<String> = values.iter().map(|&x| format!("{:016x}", output_bits(x))).collect();
+            words.join(" ")
+        };
+        match self {
+            Answer::Refused(number) => format!("refused {number}"),
+            Answer::Spoilt(number) => format!("refused {number} (lent places changed)"),
+            Answer::Values(values) => hex(values),
+            Answer::Built(kept, space) => format!("{kept} {}", hex(&space[..*kept])),
+            Answer::Walked(hit, [boxes, waiting, cut]) => format!("{} {boxes} {waiting} {cut}", hex(hit)),
+            Answer::Verdict(collision) => u32::from(*collision).to_string(),
+        }
+    }
+}
+
+fn side(distance: f64) -> &'static str {
+    match distance {
+        f64::INFINITY => "infinite",
+        -1e-8 => "crossing (-1e-8)",
+        d if d < 0.0 => "inside",
+        d if d > 0.0 => "outside",
+        _ => "touching",
+    }
+}
+
+#[cfg(test)]
+mod tests {
+    use super::*;
+
+    #[test]
+    fn lines_are_read_back() {
+        let list = vec![0.0, 1.5, -0.0, f64::INFINITY];
+        for query in [
+            Query::new(Kind::Hypot, &[], &[1.0, f64::NAN]),
+            Query::new(Kind::Convex, &[list.clone(), vec![2.0; 300]], &[]),
+            Query::new(Kind::Box, std::slice::from_ref(&list), &[1.0, 2.0, 3.0, 4.0]),
+            Query::builder(Kind::Polygon, list, 12),
+        ] {
+            let line = query.line();
+            assert_eq!(Query::parse(&line).unwrap().line(), line);
+        }
+        assert!(Query::parse("r 0").is_some());
+        assert!(Query::parse("r").is_none());
+        assert!(Query::parse("r 0 0").is_none());
+    }
+
+    #[test]
+    fn zeros_are_one_value_but_not_in_the_rest_of_the_space() {
+        assert!(Answer::Values(vec![0.0]).same(&Answer::Values(vec![-0.0])));
+        assert!(Answer::Built(1, vec![0.0, 1.0]).same(&Answer::Built(1, vec![-0.0, 1.0])));
+        assert!(!Answer::Built(1, vec![1.0, 0.0]).same(&Answer::Built(1, vec![1.0, -0.0])));
+        assert!(!Answer::Refused(3).same(&Answer::Spoilt(3)));
+    }
+}

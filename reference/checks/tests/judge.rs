@@ -1,0 +1,99 @@
+//! The judge itself: document 01's readings, and the probe beside the Rust's public functions.
+
+use checks::fixed;
+use checks::generate;
+use checks::judge::{expected, vertices};
+use checks::query::{Answer, Kind, Query};
+use checks::random::Random;
+use revolve_exact::{Sphere, Vec3, probe};
+use revolve_traced as traced;
+use std::collections::BTreeSet;
+
+const S: [f64; 8] = [0.0, 10.0, 20.0, 10.0, 20.0, 0.0, 0.0, 0.0];
+
+fn reads(kind: Kind, numbers: &[f64], distance: f64, witness: (f64, f64)) {
+    let answer = expected(&Query::new(kind, &[S.to_vec()], numbers));
+    assert!(answer.same(&Answer::Values(vec![distance, witness.0, witness.1])), "{numbers:?}: {}", answer.line());
+}
+
+fn walks(numbers: [f64; 7], hit: [f64; 3], counts: [u32; 3]) {
+    let answer = expected(&Query::new(Kind::Cylinder, &[S.to_vec()], &numbers));
+    assert!(answer.same(&Answer::Walked(hit, counts)), "{numbers:?}: {}", answer.line());
+}
+
+#[test]
+fn readings() {
+    reads(Kind::Point, &[0.0, 0.0, 10.0], -10.0, (10.0, 10.0));
+    reads(Kind::Point, &[3.0, 4.0, 30.0], 10.0, (20.0, 5.0));
+    reads(Kind::Point, &[5.0, 0.0, 20.0], 0.0, (20.0, 5.0));
+    reads(Kind::Sphere, &[0.0, 0.0, 30.0, 4.0], 6.0, (20.0, 0.0));
+    reads(Kind::Box, &[25.0, 30.0, 0.0, 5.0], 5.0, (20.0, 0.0));
+    reads(Kind::Box, &[18.0, 30.0, 0.0, 5.0], -2.0, (20.0, 0.0));
+    reads(Kind::Box, &[20.0, 25.0, 0.0, 5.0], 0.0, (20.0, 5.0));
+    reads(Kind::Box, &[-5.0, 25.0, 5.0, 15.0], -1e-8, (20.0, 10.0));
+    reads(Kind::Box, &[5.0, 6.0, -3.0, -2.0], f64::from_bits(0xc01a_d533_6963_eefc), (0.0, 0.0));
+    let tiny = vec![25.0, 5.0, 25.0 + 1e-12, 5.0, 25.0, 5.0 + 1e-12];
+    let answer = expected(&Query::new(Kind::Convex, &[tiny, S.to_vec()], &[]));
+    assert!(answer.same(&Answer::Values(vec![-25.495097567963924, 0.0, 0.0])), "{}", answer.line());
+}
+
+#[test]
+fn cylinders() {
+    walks([15.0, 0.0, 0.0, 15.0, 0.0, 30.0, 2.0], [3.0, 0.0, 10.0], [1, 0, 0]);
+    walks([12.0, 0.0, 10.0, 30.0, 0.0, 10.0, 0.0], [2.0, 10.0, 10.0], [1, 0, 0]);
+    walks([12.0, 0.0, 10.0, 30.0, 0.0, 10.0, 2.0], [2.0, 8.0, 10.0], [8192, 29, 1]);
+    let answer = |numbers: [f64; 7]| expected(&Query::new(Kind::Cylinder, &[S.to_vec()], &numbers));
+    let Answer::Walked(hit, counts) = answer([12.0, 0.0, 10.0, 30.0, 0.0, 10.0, 2f64.powi(-30)]) else { panic!() };
+    assert_eq!((hit[0], counts), (2.0, [1, 1, 0]));
+    let Answer::Walked(hit, counts) = answer([4.0, 8.0, 21.5, 24.0, 8.0, 21.5, 4.0]) else { panic!() };
+    assert_eq!((hit[0], counts[2]), (-2.5, 1));
+    let Answer::Walked(hit, counts) = answer([0.0, 0.0, 10.0, 30.0, 0.0, 10.0, 1.0]) else { panic!() };
+    assert_eq!((hit[0], counts), (-10.0, [1, 1, 0]));
+    let Answer::Walked(_, counts) = answer([0.0, 0.0, -1048576.0, 30.0, 0.0, -1048576.0, 1048576.0]) else { panic!() };
+    assert_eq!(counts, [103, 52, 0]);
+    assert!(matches!(answer([0.0, 0.0, 0.0, 1.0, 0.0, 1.0, 1.0]), Answer::Refused(11)));
+}
+
+/// The probe's distances are those of the public functions; the traced copy's are those of the exact one.
+#[test]
+fn probe_and_public_functions() {
+    let mut random = Random::new(7, 0);
+    for round in 0..4000 {
+        let kind = if round % 10 == 0 { Kind::Cylinder } else { Kind::Sphere };
+        let query = generate::drawn(&mut random, kind);
+        let solid = probe::solid(&vertices(&query.lists[0]));
+        if kind == Kind::Sphere {
+            let [x, y, z, radius] = query.array();
+            let center = Vec3::new(x, y, z);
+            let sphere = Sphere { center, radius };
+            assert_eq!(probe::point(&solid, center).map(|hit| hit.0), solid.signed_distance(center));
+            assert_eq!(
+                probe::sphere(&solid, sphere).map(|hit| hit.0),
+                solid.query_sphere(sphere).map(|hit| hit.distance)
+            );
+        } else {
+            let [ax, ay, az, bx, by, bz, radius] = query.array();
+            let (a, b) = (Vec3::new(ax, ay, az), Vec3::new(bx, by, bz));
+            let exact = solid.query_cylinder(revolve_exact::Cylinder { a, b, radius }).map(|hit| hit.distance);
+            let (a, b) = (traced::Vec3::new(ax, ay, az), traced::Vec3::new(bx, by, bz));
+            let solid = traced::probe::solid(&vertices(&query.lists[0]));
+            let noted = traced::trace::cylinder(&solid, traced::Cylinder { a, b, radius });
+            assert_eq!(noted.map(|((distance, _), _)| distance), exact);
+        }
+    }
+}
+
+#[test]
+fn the_fixed_list_has_every_kind_and_every_refusal() {
+    let queries = fixed::queries(1);
+    let outcomes: BTreeSet<(Kind, String)> =
+        queries.iter().map(|query| (query.kind, expected(query).outcome())).collect();
+    for kind in Kind::all() {
+        for number in fixed::refusals(kind) {
+            assert!(outcomes.contains(&(kind, format!("refused {number}"))), "{kind:?} lacks {number}");
+        }
+    }
+    for query in &queries {
+        assert_eq!(Query::parse(&query.line()).unwrap().line(), query.line());
+    }
+}
