@@ -1,0 +1,67 @@
+/* Jorghipa: distances between a turned half-section and the bodies beside it.
+ *
+ * All lengths are mm. A section is 3 to 256 vertices of a polygon in (z, radius), given as a pointer to the
+ * numbers z, radius, z, radius, .. and the count of NUMBERS (twice the vertices); the last vertex joins the first.
+ * A convex body is given likewise. Every coordinate, bound and radius has magnitude at most 1,048,576.
+ *
+ * A distance is negative inside, 0 on contact. Its witness is a point (z, radius) of the section. Beside a section
+ * nowhere over 1e-9 from the axis, a point or a sphere is at +infinity with the first vertex as witness.
+ *
+ * Each call returns 0, or the lowest number that applies, and then changes nothing that it was lent:
+ *    1  odd count of numbers                  6  section radius below -1e-9 (builder)
+ *    2  fewer than 3 vertices (2 points)      7  space too small (builder)
+ *    3  over 256 vertices (254 points)        8  under 3 vertices kept (builder)
+ *    4  a number is NaN or infinite           9  body radius below 0
+ *    5  a magnitude over the limit           10  z1 < z0 or r1 < r0
+ *
+ * What the caller owes, and nothing checks: every pointer is valid for its count, aligned, and not null even at
+ * count 0; and no place that is lent for writing overlaps any other place that is lent to the same call.
+ */
+#ifndef JORGHIPA_H
+#define JORGHIPA_H
+
+#include <stddef.h>
+#include <stdint.h>
+
+#ifdef __cplusplus
+extern "C" {
+#endif
+
+/* The f64 nearest the root of x, ties to even; IEEE 754's squareRoot for every x. */
+double jorghipa_sqrt(double x);
+
+/* The f64 nearest the root of a^2 + b^2, ties to even; IEEE 754's hypot for every a and b. */
+double jorghipa_hypot(double a, double b);
+
+/* Distance of the point (x, y, z) from the section; z is the spindle's axis. Numbers 1 to 5. */
+uint32_t jorghipa_point(const double *section, size_t section_count, double x, double y, double z,
+                        double *distance, double *witness_z, double *witness_radius);
+
+/* Distance of a sphere about (x, y, z). Numbers 1 to 5, 9. */
+uint32_t jorghipa_sphere(const double *section, size_t section_count, double x, double y, double z, double radius,
+                         double *distance, double *witness_z, double *witness_radius);
+
+/* Distance of the box z0..z1, r0..r1 in (z, radius). Numbers 1 to 5, 10. */
+uint32_t jorghipa_box(const double *section, size_t section_count, double z0, double z1, double r0, double r1,
+                      double *distance, double *witness_z, double *witness_radius);
+
+/* Distance of a convex polygon in (z, radius). Numbers 1 to 5, over both lists. */
+uint32_t jorghipa_convex(const double *convex, size_t convex_count, const double *section, size_t section_count,
+                         double *distance, double *witness_z, double *witness_radius);
+
+/* Builds a section from 2 to 254 points of a half-profile: drops a point within 1e-12 of the last kept one, raises
+ * a radius in [-1e-9, 0) to 0, closes to the axis. Kept numbers fill the front of space, the rest stays as it was;
+ * *kept is the count of NUMBERS written. space needs room for 2 (n + 2) numbers, n the given points. Numbers 1 to 8. */
+uint32_t jorghipa_build_section(const double *points, size_t points_count, double *space, size_t space_count,
+                                size_t *kept);
+
+/* Builds a section from a closed polygon of 3 to 256 vertices: drops repeated points and a repeated closing vertex;
+ * takes negative radii. space needs room for 2 n numbers. Numbers 1 to 5, 7, 8. */
+uint32_t jorghipa_build_polygon(const double *points, size_t points_count, double *space, size_t space_count,
+                                size_t *kept);
+
+#ifdef __cplusplus
+}
+#endif
+
+#endif

@@ -1,0 +1,2 @@
+-- What an answer's case gives, an equal answer gives.
+pub mod Same

@@ -1,0 +1,21 @@
+-- What an answer's case gives the caller, an equal answer gives. Assumes nothing.
+use Prim.Native.Nat.{ℕ}
+use mathlib.Core.List.{List}
+use mathlib.Core.Path.{_≡_, subst}
+use lib.Ieee.{Float}
+use Rattle.section.specs.Builder.{filled}
+use Rattle.section.specs.declared.shapes.Answer.{Answer}
+use Rattle.section.specs.declared.shapes.Kept.{Kept}
+use Rattle.capi.specs.Interface.{Places, Gives, Builds, keptNumber, keptCount}
+
+pub gives : {a b : Answer} {n : ℕ} {before after : Places} → a ≡ b → Gives a n before after → Gives b n before after
+gives {n = n} {before = p} {after = q} e g = subst (λ (x : Answer). Gives x n p q) e g
+
+pub builds : {a b : Kept} {kept space₀ space : List Float} {n count₀ count : ℕ} → a ≡ b
+    → (n ≡ keptNumber a) × (count ≡ keptCount count₀ a) → space ≡ filled kept space₀
+    → Builds b kept n space₀ space count₀ count
+builds {n = n} {count₀ = count₀} {count = count} e g s = record {
+  returned = subst (λ (x : Kept). n ≡ keptNumber x) e (g .0);
+  count-place = subst (λ (x : Kept). count ≡ keptCount count₀ x) e (g .1);
+  space-place = s;
+}

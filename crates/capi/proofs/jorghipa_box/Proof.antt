@@ -1,0 +1,17 @@
+-- `capi::jorghipa_box` meets its contract: the answer's case in the lent places. Assumes nothing.
+use borrow.Author.Needs.{needs}
+use Rattle.capi.proofs.Same.{gives}
+use Rattle.capi.proofs.jorghipa_box.Statement.{statement}
+use Rattle.capi.proofs.jorghipa_box.Tie as tie
+
+aabb-polygon-distance-requires : tie.Need-aabb-polygon-distance-requires
+aabb-polygon-distance-requires c κs = search needs
+
+give-requires : tie.Need-give-requires
+give-requires c κs = search needs
+
+returns : tie.Need-returns
+returns c = gives (c .before .before .before .before .aabb-polygon-distance .ensures .0) (c .give .ensures)
+
+pub jorghipa-box-spec : {M : Type 1} → statement M
+jorghipa-box-spec = tie.close (tie.spec aabb-polygon-distance-requires give-requires returns)

@@ -1,0 +1,17 @@
+-- `capi::jorghipa_convex` meets its contract: the answer's case in the lent places. Assumes nothing.
+use borrow.Author.Needs.{needs}
+use Rattle.capi.proofs.Same.{gives}
+use Rattle.capi.proofs.jorghipa_convex.Statement.{statement}
+use Rattle.capi.proofs.jorghipa_convex.Tie as tie
+
+convex-polygon-distance-requires : tie.Need-convex-polygon-distance-requires
+convex-polygon-distance-requires c κs = search needs
+
+give-requires : tie.Need-give-requires
+give-requires c κs = search needs
+
+returns : tie.Need-returns
+returns c = gives (c .before .before .before .before .convex-polygon-distance .ensures .0) (c .give .ensures)
+
+pub jorghipa-convex-spec : {M : Type 1} → statement M
+jorghipa-convex-spec = tie.close (tie.spec convex-polygon-distance-requires give-requires returns)

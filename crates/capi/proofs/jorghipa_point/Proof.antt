@@ -1,0 +1,17 @@
+-- `capi::jorghipa_point` meets its contract: the answer's case in the lent places. Assumes nothing.
+use borrow.Author.Needs.{needs}
+use Rattle.capi.proofs.Same.{gives}
+use Rattle.capi.proofs.jorghipa_point.Statement.{statement}
+use Rattle.capi.proofs.jorghipa_point.Tie as tie
+
+signed-distance-requires : tie.Need-signed-distance-requires
+signed-distance-requires c κs = search needs
+
+give-requires : tie.Need-give-requires
+give-requires c κs = search needs
+
+returns : tie.Need-returns
+returns c = gives (c .before .before .before .before .signed-distance .ensures .0) (c .give .ensures)
+
+pub jorghipa-point-spec : {M : Type 1} → statement M
+jorghipa-point-spec = tie.close (tie.spec signed-distance-requires give-requires returns)

@@ -1,0 +1,17 @@
+-- `capi::jorghipa_sphere` meets its contract: the answer's case in the lent places. Assumes nothing.
+use borrow.Author.Needs.{needs}
+use Rattle.capi.proofs.Same.{gives}
+use Rattle.capi.proofs.jorghipa_sphere.Statement.{statement}
+use Rattle.capi.proofs.jorghipa_sphere.Tie as tie
+
+query-sphere-requires : tie.Need-query-sphere-requires
+query-sphere-requires c κs = search needs
+
+give-requires : tie.Need-give-requires
+give-requires c κs = search needs
+
+returns : tie.Need-returns
+returns c = gives (c .before .before .before .before .query-sphere .ensures .0) (c .give .ensures)
+
+pub jorghipa-sphere-spec : {M : Type 1} → statement M
+jorghipa-sphere-spec = tie.close (tie.spec query-sphere-requires give-requires returns)

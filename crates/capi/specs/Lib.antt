@@ -1,0 +1,2 @@
+-- What the C functions return and leave in the places that they are lent.
+pub mod Interface
