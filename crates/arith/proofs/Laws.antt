@@ -2,6 +2,7 @@
 pub mod Order
 pub mod Monotone
 pub mod Exact
+pub mod Extended
 pub mod Middle
 pub mod Depth
 pub mod Bounds

@@ -1,8 +1,7 @@
--- Laws of loops and tests that the functions' proofs share, refusals, builders, demand 1 over the definitions, and 01's readings.
+-- Laws of loops and tests that the functions' proofs share, refusals, builders, and demand 1 over the definitions.
 pub mod Fold
 pub mod Flags
 pub mod Overlap
 pub mod Refusals
 pub mod Builders
 pub mod Demand
-pub mod Readings

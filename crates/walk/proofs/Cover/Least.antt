@@ -1,0 +1,110 @@
+-- The least box distance that the walk has seen is that of one of the measured boxes, and no greater than that of any.
+-- Assumes nothing.
+use Prim.Native.Nat.{ℕ, zero, suc, _≤_, zero-le, suc-le-suc, min as minℕ}
+use mathlib.Core.Path.{_≡_, refl, sym, ap, _∙_, subst}
+use mathlib.Core.Logic.{inl, inr, _⊎_}
+use mathlib.Core.Bool.{Bool, true, false, cond}
+use mathlib.Core.List.{List, [], _∷_, List·Memᴰ, List·Memᴰ·head, List·Memᴰ·tail, List·Memᴰ·cases-cons}
+use native.Mathlib.Omega.{arith}
+use lib.ListN.{length}
+use lib.Dec.{T}
+use lib.Ieee.{Float, nan, inf, fin, binary64, le}
+use Rattle.arith.specs.F64.{_≼_, ∞}
+use Rattle.arith.specs.Num.{min}
+use Rattle.arith.proofs.Rounding.KeyOrder.{key→le}
+use Rattle.arith.proofs.Laws.Order.{min-key}
+use Rattle.section.specs.declared.shapes.CollisionHit.{CollisionHit}
+use Rattle.walk.specs.Pieces.{boxOf}
+use Rattle.walk.specs.Walk.{Walk, start, boxHit, waiting, measured, walk, reported}
+use Rattle.walk.specs.Cover.{Least}
+use Rattle.walk.specs.declared.shapes.RadialBand.{RadialBand}
+use Rattle.walk.specs.declared.shapes.Piece.{Piece}
+use Rattle.walk.proofs.Cover.Numbers.{K, Number, cond-number}
+use Rattle.walk.proofs.Cover.Distances.{infinite-number, box-number}
+
+module _ (s : List Float) (b : RadialBand) where
+  leastOf : List Piece → Float
+  leastOf [] = ∞
+  leastOf (p ∷ ps) = min (leastOf ps) (boxHit s b p .distance)
+
+  least-number : (l : List Piece) → Number (leastOf l)
+  unfolding leastOf
+  least-number [] = infinite-number
+  least-number (p ∷ l) =
+      let d = boxHit s b p .distance in
+      cond-number (leastOf l ≼ d) (leastOf l) d (least-number l) (box-number s (boxOf b p))
+
+  -- no greater than any
+  least-low : (l : List Piece) (p : Piece) → List·Memᴰ p l → K (leastOf l) ≤ K (boxHit s b p .distance)
+  unfolding leastOf
+  least-low [] p m = elim m [ ]
+  least-low (q ∷ l) p m = go (List·Memᴰ·cases-cons m) (least-low l p)
+    where
+      k : K (leastOf (q ∷ l)) ≡ minℕ (K (leastOf l)) (K (boxHit s b q .distance))
+      k = min-key binary64 (leastOf l) (boxHit s b q .distance) (least-number l) (box-number s (boxOf b q))
+
+      go : (p ≡ q) ⊎ List·Memᴰ p l → (List·Memᴰ p l → K (leastOf l) ≤ K (boxHit s b p .distance))
+          → K (leastOf (q ∷ l)) ≤ K (boxHit s b p .distance)
+      go (inl e) h = rw (k, e) (omega arith)
+      go (inr r) h = rw k (omega (arith, h r))
+
+  -- one of them
+  record One (l : List Piece) : Type 0 where
+    piece : Piece
+    seen : List·Memᴰ piece l
+    equal : leastOf l ≡ boxHit s b piece .distance
+
+  min-∞ : (x : Float) → min ∞ x ≡ x
+  unfolding le
+  min-∞ nan = refl
+  min-∞ (inf false) = refl
+  min-∞ (inf true) = refl
+  min-∞ (fin t m e) = refl
+
+  one : (l : List Piece) → 1 ≤ length l → One l
+  unfolding leastOf
+  one [] h = let c : ⊥ = omega arith in absurd c
+  one (p ∷ []) h = record { piece = p; seen = List·Memᴰ·head refl; equal = min-∞ (boxHit s b p .distance) }
+  one (p ∷ (q ∷ l)) h = go (leastOf (q ∷ l) ≼ boxHit s b p .distance) refl (one (q ∷ l) (suc-le-suc zero-le))
+    where
+      taken : (t : Bool) → (leastOf (q ∷ l) ≼ boxHit s b p .distance) ≡ t
+          → leastOf (p ∷ (q ∷ l)) ≡ cond t (leastOf (q ∷ l)) (boxHit s b p .distance)
+      taken t e = ap (λ (t : Bool). cond t (leastOf (q ∷ l)) (boxHit s b p .distance)) e
+
+      go : (t : Bool) → (leastOf (q ∷ l) ≼ boxHit s b p .distance) ≡ t → One (q ∷ l) → One (p ∷ (q ∷ l))
+      go true e o = record { piece = o .piece; seen = List·Memᴰ·tail (o .seen); equal = taken true e ∙ o .equal }
+      go false e o = record { piece = p; seen = List·Memᴰ·head refl; equal = taken false e }
+
+  module _ (tol : Float) where
+    -- what the walk keeps is the least of what it has measured
+    keeps-least : (n : ℕ) (ps : List Piece) (w : Walk) → w .least ≡ leastOf (w .seen)
+        → walk s b tol n ps w .least ≡ leastOf (walk s b tol n ps w .seen)
+    unfolding walk leastOf
+    keeps-least zero [] w h = h
+    keeps-least zero (p ∷ ps) w h = h
+    keeps-least (suc n) [] w h = h
+    keeps-least (suc n) (p ∷ ps) w h =
+        keeps-least n (waiting s b tol p ps (w .best)) (measured s b tol p ps w)
+        (ap (λ (x : Float). min x (boxHit s b p .distance)) h)
+
+    pub least : (n : ℕ) (ps : List Piece) (best : CollisionHit) → walk s b tol n ps (start best) .cut ≡ true
+        → 1 ≤ length (walk s b tol n ps (start best) .seen) → Least s b tol (walk s b tol n ps (start best))
+    unfolding leastOf
+    least n ps best e l =
+        record {
+          piece = o .piece;
+          measured = o .seen;
+          equal = is ∙ o .equal;
+          below = λ p m. subst (λ (x : Float). T (x ≼ boxHit s b p .distance)) (sym is)
+              (key→le binary64 (leastOf (w .seen)) (boxHit s b p .distance) (least-number (w .seen))
+              (box-number s (boxOf b p)) (least-low (w .seen) p m));
+        }
+      where
+        w : Walk
+        w = walk s b tol n ps (start best)
+
+        is : reported w ≡ leastOf (w .seen)
+        is = ap (λ (c : Bool). cond c (w .least) (w .best .distance)) e ∙ keeps-least n ps (start best) refl
+
+        o : One (w .seen)
+        o = one (w .seen) l

@@ -1,0 +1,49 @@
+-- The samples of a band are at most 2 ^ 23. So the starting distance is at most 2 ^ 27, or +infinity beside a section
+-- on the axis only.
+use Prim.Native.Nat.{ℕ, zero, suc, _≤_}
+use mathlib.Core.List.{List}
+use mathlib.Core.Path.{refl}
+use native.Mathlib.Nat.{le-of-suc-le-suc}
+use lib.Ieee.{Float}
+use Rattle.arith.specs.F64.{𝟘, ∞}
+use Rattle.section.specs.Points.{pointDistance}
+use Rattle.section.specs.Vertices.{hit, nearer, nearestOf, vertex}
+use Rattle.section.proofs.Demand.Bounds.{Finite, add-finite, finite-raise, finite-upTo, half-finite, mul-finite}
+use Rattle.section.proofs.Demand.Bounds.{sub-finite, zero-finite}
+use Rattle.section.proofs.Demand.Hits.{BestUpTo, VertexUpTo, VerticesUpTo, nearer-best, none-yet}
+use Rattle.section.proofs.Demand.Points.{point-best}
+use Rattle.section.proofs.Demand.Steps.{upto-keeps}
+use Rattle.walk.specs.Band.{halfWidth, spanAt}
+use Rattle.walk.specs.Walk.{sampleAt, sampleZ, sampled}
+use Rattle.walk.specs.declared.shapes.RadialBand.{RadialBand}
+use Rattle.walk.proofs.Demand.Bands.{BandUpTo, SpanFinite, halfWidth-finite, spanAt-finite}
+use Rattle.walk.proofs.Demand.Intervals.{Intervals, interval-finite}
+use Rattle.walk.proofs.Demand.Pieces.{wholeWidth-finite}
+
+module _ {b : RadialBand} (B : BandUpTo b) where
+  sampleZ-finite : {n : ℕ} → Intervals n → (i : ℕ) → i ≤ n → Finite 23 (sampleZ b n i)
+  sampleZ-finite N i h =
+      let w = wholeWidth-finite B in
+      add-finite (w .z0) (mul-finite (sub-finite (w .z1) (w .z0) tt) (interval-finite N i h) tt) tt
+
+  sampleAt-upTo : {z : Float} → Finite 23 z → (j : ℕ) → VertexUpTo 23 (sampleAt b z j)
+  unfolding sampleAt
+  sampleAt-upTo {z} Z j = record { z = finite-upTo Z; r = finite-upTo (finite-raise (chosen j) tt) }
+    where
+      r : SpanFinite (spanAt b (halfWidth b z))
+      r = spanAt-finite B (halfWidth-finite B Z)
+
+      chosen : (j : ℕ) → Finite 22 (sampleAt b z j .r)
+      chosen zero = r .lo
+      chosen (suc zero) = r .hi
+      chosen (suc (suc j)) = half-finite (add-finite (r .lo) (r .hi) tt) tt
+
+  pub sampled-best : {s : List Float} → VerticesUpTo 23 s → {n : ℕ} → Intervals n → BestUpTo 27 (sampled s b n)
+  unfolding sampled
+  sampled-best {s} S {n} N =
+      upto-keeps (BestUpTo 27) (λ i best. nearestOf (λ j. pointDistance s (sampleAt b (sampleZ b n i) j)) best 3)
+      (hit ∞ (vertex (b .zc) 𝟘)) (suc n)
+      (none-yet refl (record { z = finite-upTo (finite-raise (B .zc) tt); r = finite-upTo (zero-finite 25) }))
+      (λ i l best A. upto-keeps (BestUpTo 27)
+      (λ j best. nearer best (pointDistance s (sampleAt b (sampleZ b n i) j))) best 3 A
+      (λ j m c C. nearer-best C (point-best S (sampleAt-upTo (sampleZ-finite N i (le-of-suc-le-suc l)) j))))

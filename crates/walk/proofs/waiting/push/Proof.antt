@@ -1,0 +1,47 @@
+-- `walk::waiting::push` meets its contract. Assumes nothing.
+use native.Mathlib.Numerals.{add-one}
+use native.Mathlib.Omega.{arith}
+use mathlib.Core.Path.{refl}
+use lib.ListN.{length-set}
+use Rattle.walk.proofs.Stored.{pieces-push}
+use borrow.Author.Needs.{needs}
+use Rattle.walk.proofs.waiting.push.Statement.{statement}
+use Rattle.walk.proofs.waiting.push.Tie as tie
+
+mul-at : tie.Need-mul-at
+mul-at c = search needs
+
+mul-waiting : tie.Need-mul-waiting
+mul-waiting c = search needs
+
+element-write-waiting : tie.Need-element-write-waiting
+element-write-waiting c = search needs
+
+add-waiting : tie.Need-add-waiting
+add-waiting c = search needs
+
+mul-waiting-2 : tie.Need-mul-waiting-2
+mul-waiting-2 c = search needs
+
+element-write-waiting-2 : tie.Need-element-write-waiting-2
+element-write-waiting-2 c = search needs
+
+add-result : tie.Need-add-result
+add-result c = search needs
+
+returns : tie.Need-returns
+returns c =
+    ((refl, rw (add-one (c .args .n)) (pieces-push _ _ _ (omega (arith, c .pre .1)))), simp length-set (c .pre .1))
+
+pub push-spec : {M : Type 1} → statement M
+push-spec =
+    tie.close
+    (tie.spec
+    mul-at
+    mul-waiting
+    element-write-waiting
+    add-waiting
+    mul-waiting-2
+    element-write-waiting-2
+    add-result
+    returns)

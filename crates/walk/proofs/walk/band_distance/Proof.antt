@@ -1,0 +1,27 @@
+-- `walk::walk::band_distance` meets its contract. Assumes nothing.
+use native.Mathlib.Omega.{arith}
+use Rattle.walk.specs.Walk.{bandDistance}
+use borrow.Author.Needs.{needs}
+use Rattle.walk.proofs.walk.band_distance.Statement.{statement}
+use Rattle.walk.proofs.walk.band_distance.Tie as tie
+
+thin-box-requires : tie.Need-thin-box-requires
+thin-box-requires c κs = search needs
+
+one-box-requires : tie.Need-one-box-requires
+one-box-requires c κs = search needs
+
+returns : tie.Need-returns
+unfolding bandDistance
+returns c = rw (c .before .before .if1 .taken, ← c .before .thin-box .ensures) (c .one-box .ensures)
+
+walk-with-requires : tie.Need-walk-with-requires
+walk-with-requires c κs = (c .before .before .before .pre .0, omega arith, c .before .before .before .pre .1)
+
+returns-2 : tie.Need-returns-2
+unfolding bandDistance
+returns-2 c = rw (c .before .if1 .left) (c .walk-with .ensures)
+
+pub band-distance-spec : {M : Type 1} → statement M
+band-distance-spec =
+    tie.close (tie.spec thin-box-requires one-box-requires returns walk-with-requires returns-2)

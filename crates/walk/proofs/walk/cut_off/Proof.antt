@@ -1,0 +1,10 @@
+-- `walk::walk::cut_off` meets its contract. Assumes nothing.
+use mathlib.Core.Path.{refl}
+use Rattle.walk.proofs.walk.cut_off.Statement.{statement}
+use Rattle.walk.proofs.walk.cut_off.Tie as tie
+
+returns : tie.Need-returns
+returns c = refl
+
+pub cut-off-spec : {M : Type 1} → statement M
+cut-off-spec = tie.close (tie.spec returns)

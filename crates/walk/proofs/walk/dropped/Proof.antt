@@ -1,0 +1,10 @@
+-- `walk::walk::dropped` meets its contract. Assumes nothing.
+use mathlib.Core.Path.{refl}
+use Rattle.walk.proofs.walk.dropped.Statement.{statement}
+use Rattle.walk.proofs.walk.dropped.Tie as tie
+
+returns : tie.Need-returns
+returns c = refl
+
+pub dropped-spec : {M : Type 1} → statement M
+dropped-spec = tie.close (tie.spec returns)

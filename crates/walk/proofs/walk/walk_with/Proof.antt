@@ -1,0 +1,147 @@
+-- `walk::walk::walk_with` meets its contract: array and locals are a state of the definition's walk, from start to end.
+use Prim.Native.Nat.{_-_}
+use native.Mathlib.Omega.{arith}
+use Rattle.walk.proofs.Loop.{State, begun, ended, cut-short, has-box, has-room, turned}
+use borrow.Author.Needs.{needs}
+use Rattle.walk.proofs.walk.walk_with.Statement.{statement}
+use Rattle.walk.proofs.walk.walk_with.Tie as tie
+
+abbrev Inv-loop : tie.InvT-loop
+Inv-loop s b tol cap intervals waiting₀ n₀ best₀ least₀ boxes₀ most₀ waiting n best least boxes most =
+    State s b tol cap intervals waiting n boxes most least best
+
+abbrev μ-loop : tie.MeasureT-loop
+μ-loop s b tol cap intervals waiting₀ n₀ best₀ least₀ boxes₀ most₀ waiting n best least boxes most = cap - boxes
+
+whole-width-requires : tie.Need-whole-width-requires Inv-loop μ-loop
+whole-width-requires c κs = search needs
+
+push-requires : tie.Need-push-requires Inv-loop μ-loop
+push-requires c κs = search needs
+
+sampled-requires : tie.Need-sampled-requires Inv-loop μ-loop
+sampled-requires c κs = search needs
+
+infinity-requires : tie.Need-infinity-requires Inv-loop μ-loop
+infinity-requires c κs = search needs
+
+loop-holds : tie.Need-loop-holds Inv-loop μ-loop
+loop-holds c =
+    let pushed = c .before .before .push .ensures in
+    begun _ (pushed .0) (pushed .1)
+    (c .before .before .before .whole-width .ensures) (c .before .sampled .ensures) (c .infinity .ensures)
+
+cut-off-requires : tie.Need-cut-off-requires Inv-loop μ-loop
+cut-off-requires c κs = search needs
+
+returns : tie.Need-returns Inv-loop μ-loop
+returns c =
+    let test = c .before in
+    cut-short (test .before .before .loop .inv) (test .before .loop-test .taken) (test .if1 .taken) (c .cut-off .ensures)
+
+sub-last : tie.Need-sub-last Inv-loop μ-loop
+sub-last c = search needs
+
+mul-at : tie.Need-mul-at Inv-loop μ-loop
+mul-at c = search needs
+
+mul-z0 : tie.Need-mul-z0 Inv-loop μ-loop
+mul-z0 c = search needs
+
+array-read-z0 : tie.Need-array-read-z0 Inv-loop μ-loop
+array-read-z0 c = search needs
+
+add-z1 : tie.Need-add-z1 Inv-loop μ-loop
+add-z1 c = search needs
+
+mul-z1 : tie.Need-mul-z1 Inv-loop μ-loop
+mul-z1 c = search needs
+
+array-read-z1 : tie.Need-array-read-z1 Inv-loop μ-loop
+array-read-z1 c = search needs
+
+measure-requires : tie.Need-measure-requires Inv-loop μ-loop
+measure-requires c κs = search needs
+
+halved-requires : tie.Need-halved-requires Inv-loop μ-loop
+halved-requires c κs = search needs
+
+push-halves-requires : tie.Need-push-halves-requires Inv-loop μ-loop
+push-halves-requires c κs =
+    let test = c .before .before .before in
+    let looped = test .before .before in
+    let start = looped .before .before .before .before .before .before .before in
+    let state = looped .loop .inv in
+    let left = has-box state (test .if1 .left) in
+    let measured = c .before .before .measure .ensures in
+    (
+      omega (arith, state .few),
+      has-room state (test .before .loop-test .taken) left measured (c .halved .ensures) (start .pre .2),
+      state .stored,
+    )
+
+better-requires : tie.Need-better-requires Inv-loop μ-loop
+better-requires c κs = search needs
+
+min-requires : tie.Need-min-requires Inv-loop μ-loop
+min-requires c κs = search needs
+
+add-boxes : tie.Need-add-boxes Inv-loop μ-loop
+add-boxes c =
+    let test = c .before .before .before .before .before .before in
+    let looped = test .before .before in
+    let start = looped .before .before .before .before .before .before .before in
+    omega (arith, has-box (looped .loop .inv) (test .if1 .left), start .fits .cap)
+
+larger-requires : tie.Need-larger-requires Inv-loop μ-loop
+larger-requires c κs = search needs
+
+loop-less : tie.Need-loop-less Inv-loop μ-loop
+loop-less c =
+    let test = c .before .before .before .before .before .before .before in
+    omega (arith, has-box (test .before .before .loop .inv) (test .if1 .left))
+
+loop-again : tie.Need-loop-again Inv-loop μ-loop
+loop-again c =
+    let test = c .before .before .before .before .before .before .before in
+    let state = test .before .before .loop .inv in
+    let left = has-box state (test .if1 .left) in
+    let measured = c .before .before .before .before .before .before .measure .ensures in
+    let halved = c .before .before .before .before .halved .ensures in
+    let pushed = c .before .before .before .push-halves .ensures in
+    rw (c .larger .ensures, c .before .min .ensures, c .before .before .better .ensures)
+    (turned state (test .before .loop-test .taken) left measured halved (pushed .0) (pushed .1))
+
+returns-2 : tie.Need-returns-2 Inv-loop μ-loop
+returns-2 c = ended (c .before .loop .inv) (c .loop-test .left)
+
+pub walk-with-spec : {M : Type 1} → statement M
+walk-with-spec =
+    tie.close
+    (tie.spec
+    Inv-loop
+    μ-loop
+    whole-width-requires
+    push-requires
+    sampled-requires
+    infinity-requires
+    loop-holds
+    cut-off-requires
+    returns
+    sub-last
+    mul-at
+    mul-z0
+    array-read-z0
+    add-z1
+    mul-z1
+    array-read-z1
+    measure-requires
+    halved-requires
+    push-halves-requires
+    better-requires
+    min-requires
+    add-boxes
+    larger-requires
+    loop-less
+    loop-again
+    returns-2)

@@ -1,0 +1,46 @@
+-- What the cylinder query answers: numbers 1 to 5, 9 and 11 of 01's table, or the distance by the axis. Assumes nothing.
+use Prim.Native.Nat.{ℕ, zero, suc}
+use mathlib.Core.Bool.{Bool, true, false}
+use mathlib.Core.List.{List, [], _∷_, _++_}
+use lib.Ieee.{Float}
+use Rattle.arith.specs.F64.{_≺_, 𝟘}
+use Rattle.section.specs.Boxes.{boxDistance}
+use Rattle.section.specs.Refusals.{refuse, queryRefusal, pointNumbers}
+use Rattle.walk.specs.Axis.{axis}
+use Rattle.walk.specs.Band.{axialBox, bandOf}
+use Rattle.walk.specs.Walk.{oneBox, bandDistance}
+use Rattle.walk.specs.declared.shapes.Cylinder.{Cylinder}
+use Rattle.walk.specs.declared.shapes.CylinderHit.{CylinderHit}
+use Rattle.walk.specs.declared.shapes.CylinderAnswer.{CylinderAnswer}
+use Rattle.walk.specs.declared.shapes.CylinderAnswer.the-variants.{Hit, Refused}
+use Rattle.walk.specs.declared.shapes.Axis.{Axis}
+use Rattle.walk.specs.declared.shapes.Axis.the-variants.{Axial, Radial, Neither}
+
+abbrev pub neither : Axis → Bool
+neither Axial = false
+neither Radial = false
+neither Neither = true
+
+abbrev pub cylinderNumbers : Cylinder → List Float
+cylinderNumbers c = pointNumbers (c .a) ++ (pointNumbers (c .b) ++ (c .radius ∷ []))
+
+unfoldable pub cylinderRefusal : List Float → Cylinder → ℕ
+cylinderRefusal s c =
+    queryRefusal (s ∷ []) (s ++ cylinderNumbers c) (refuse 9 (c .radius ≺ 𝟘) (refuse 11 (neither (axis c)) 0))
+
+-- by the axis; what is neither axial nor radial is turned down
+unfoldable pub cylinderDistance : List Float → Cylinder → CylinderHit
+cylinderDistance s c = by (axis c)
+  where
+    by : Axis → CylinderHit
+    by Axial = oneBox (boxDistance s (axialBox c))
+    by Radial = bandDistance s (bandOf c)
+    by Neither = oneBox (boxDistance s (axialBox c))
+
+-- the number if there is one, and otherwise the hit with its counts and mark
+abbrev pub answer : ℕ → CylinderHit → CylinderAnswer
+answer zero h = Hit h
+answer (suc n) h = Refused (suc n)
+
+unfoldable pub cylinderAnswer : List Float → Cylinder → CylinderAnswer
+cylinderAnswer s c = answer (cylinderRefusal s c) (cylinderDistance s c)

@@ -1,0 +1,37 @@
+-- A piece of the cylinder's width: its box and its variation. Assumes nothing.
+use lib.Ieee.{Float}
+use Rattle.arith.specs.F64.{_⊕_, _⊖_, 𝟘}
+use Rattle.arith.specs.Num.{min, max, clamp}
+use Rattle.section.specs.declared.shapes.Aabb.{Aabb}
+use Rattle.walk.specs.Band.{halfWidth, spanAt}
+use Rattle.walk.specs.declared.shapes.RadialBand.{RadialBand}
+use Rattle.walk.specs.declared.shapes.Span.{Span}
+use Rattle.walk.specs.declared.shapes.Piece.{Piece}
+
+abbrev pub piece : Float → Float → Piece
+piece z0 z1 = record { z0 = z0; z1 = z1 }
+
+-- the cylinder's width: every z from zc - radius to zc + radius
+abbrev pub wholeWidth : RadialBand → Piece
+wholeWidth b = piece (b .zc ⊖ b .radius) (b .zc ⊕ b .radius)
+
+-- the spans at the piece's greatest and at its least half width
+unfoldable pub widest : RadialBand → Piece → Span
+widest b p = spanAt b (halfWidth b (clamp (b .zc) (p .z0) (p .z1)))
+
+unfoldable pub narrowest : RadialBand → Piece → Span
+narrowest b p = spanAt b (min (halfWidth b (p .z0)) (halfWidth b (p .z1)))
+
+-- the box: its z range is the piece, its radial range joins the two spans
+unfoldable pub boxOf : RadialBand → Piece → Aabb
+boxOf b p =
+    let w = widest b p in
+    let n = narrowest b p in
+    record { z0 = p .z0; z1 = p .z1; r0 = min (w .lo) (n .lo); r1 = max (w .hi) (n .hi) }
+
+-- variation: the larger of how far the lower ends and how far the upper ends of the two spans lie apart, at least 0
+unfoldable pub variation : RadialBand → Piece → Float
+variation b p =
+    let w = widest b p in
+    let n = narrowest b p in
+    max (max (max (w .lo) (n .lo) ⊖ min (w .lo) (n .lo)) (max (w .hi) (n .hi) ⊖ min (n .hi) (w .hi))) 𝟘

@@ -1,0 +1,145 @@
+-- 01's walk over the pieces of a cylinder across the spindle. The tolerance is 1e-9, the cap 8,192 and the number n of sample
+-- intervals 16 in document 01. Assumes nothing.
+use Prim.Native.Nat.{ℕ, zero, suc, _+_, _*_, max as maxℕ}
+use mathlib.Core.Bool.{Bool, true, false, not, _&&_, cond}
+use mathlib.Core.List.{List, [], _∷_}
+use lib.ListN.{length, getD}
+use lib.IntN.{pos}
+use lib.Ieee.{Float, nan, binary64, ofInt}
+use Rattle.arith.specs.F64.{_⊕_, _⊖_, _⊗_, _⊘_, _≺_, _≼_, 𝟘, ∞, e-9, e-12, e-15}
+use Rattle.arith.specs.Num.{min}
+use Rattle.section.specs.Vertices.{vertex, hit, upto, nearer, nearestOf}
+use Rattle.section.specs.Points.{pointDistance}
+use Rattle.section.specs.Boxes.{boxDistance}
+use Rattle.section.specs.declared.shapes.Vertex.{Vertex}
+use Rattle.section.specs.declared.shapes.CollisionHit.{CollisionHit}
+use Rattle.section.specs.declared.shapes.Aabb.{Aabb}
+use Rattle.walk.specs.Band.{mean, halfWidth, spanAt}
+use Rattle.walk.specs.Pieces.{piece, wholeWidth, boxOf, variation}
+use Rattle.walk.specs.declared.shapes.RadialBand.{RadialBand}
+use Rattle.walk.specs.declared.shapes.Piece.{Piece}
+use Rattle.walk.specs.declared.shapes.CylinderHit.{CylinderHit}
+
+-- ---- the starting distance
+
+-- at z the least, the greatest and the mean radius, in this order
+unfoldable pub sampleAt : RadialBand → Float → ℕ → Vertex
+sampleAt b z j =
+    let r = spanAt b (halfWidth b z) in
+    vertex z (choose j (r .lo) (r .hi) (mean (r .lo) (r .hi)))
+  where
+    choose : ℕ → Float → Float → Float → Float
+    choose zero x y z = x
+    choose (suc zero) x y z = y
+    choose (suc (suc j)) x y z = z
+
+-- z of sample i of n + 1: z0 + (z1 - z0)·(i/n)
+abbrev pub sampleZ : RadialBand → ℕ → ℕ → Float
+sampleZ b n i =
+    let w = wholeWidth b in
+    w .z0 ⊕ (w .z1 ⊖ w .z0) ⊗ (ofInt binary64 (pos i) ⊘ ofInt binary64 (pos n))
+
+-- ---- the walk
+
+-- What the walk has so far: the best distance with its witness, the least box distance seen, the most pieces that waited at any one
+-- time, the pieces measured (the last one first), and the mark.
+pub record Walk : Type 0 where
+  pub best : CollisionHit
+  pub least : Float
+  pub most : ℕ
+  pub seen : List Piece
+  pub cut : Bool
+
+-- box distance > best + 1e-12: the piece is dropped
+abbrev pub dropped : CollisionHit → CollisionHit → Bool
+dropped m best = best .distance ⊕ e-12 ≺ m .distance
+
+-- if box distance + variation < best, that becomes best, with its witness
+abbrev pub better : CollisionHit → Float → CollisionHit → CollisionHit
+better m v best = cond (dropped m best) best (nearer best (hit (m .distance ⊕ v) (m .witness)))
+
+-- variation and width (right end less left, rounded) both above the tolerance: the piece is halved
+abbrev pub halved : Float → CollisionHit → Float → CollisionHit → Piece → Bool
+halved tol m v best p = not (dropped m best) && ((tol ≺ v) && (tol ≺ p .z1 ⊖ p .z0))
+
+-- the left half waits first, so that the right one is taken next
+abbrev pub halves : Piece → List Piece → List Piece
+halves p ps = let m = mean (p .z0) (p .z1) in piece m (p .z1) ∷ piece (p .z0) m ∷ ps
+
+abbrev pub marked : Walk → Walk
+marked w = record { best = w .best; least = w .least; most = w .most; seen = w .seen; cut = true }
+
+abbrev pub start : CollisionHit → Walk
+start best = record { best = best; least = ∞; most = 1; seen = []; cut = false }
+
+module _ (s : List Float) (b : RadialBand) where
+  -- strictly smallest first, over the samples in order
+  unfoldable pub sampled : ℕ → CollisionHit
+  sampled n =
+      upto (λ i best. nearestOf (λ j. pointDistance s (sampleAt b (sampleZ b n i) j)) best 3)
+      (hit ∞ (vertex (b .zc) 𝟘)) (suc n)
+
+  -- the box of a piece is measured
+  abbrev pub boxHit : Piece → CollisionHit
+  boxHit p = boxDistance s (boxOf b p)
+
+  module _ (tol : Float) where
+    -- what waits when piece p, taken from before ps, has gone through
+    abbrev pub waiting : Piece → List Piece → CollisionHit → List Piece
+    waiting p ps best = cond (halved tol (boxHit p) (variation b p) best p) (halves p ps) ps
+
+    abbrev pub bested : Piece → CollisionHit → CollisionHit
+    bested p best = better (boxHit p) (variation b p) best
+
+    abbrev pub measured : Piece → List Piece → Walk → Walk
+    measured p ps w =
+        record {
+          best = bested p (w .best);
+          least = min (w .least) (boxHit p .distance);
+          most = maxℕ (w .most) (length (waiting p ps (w .best)));
+          seen = p ∷ w .seen;
+          cut = false;
+        }
+
+    -- At most n boxes more, over the pieces that wait, the last one taken first; one piece more is not measured and marks it cut.
+    unfoldable pub walk : ℕ → List Piece → Walk → Walk
+    walk zero [] w = w
+    walk zero (p ∷ ps) w = marked w
+    walk (suc n) [] w = w
+    walk (suc n) (p ∷ ps) w = walk n (waiting p ps (w .best)) (measured p ps w)
+
+    -- what waits when n pieces, or all that there are, have gone through their whole step
+    unfoldable pub left : ℕ → List Piece → CollisionHit → List Piece
+    left zero ps best = ps
+    left (suc n) [] best = []
+    left (suc n) (p ∷ ps) best = left n (waiting p ps best) (bested p best)
+
+    -- the one waiting piece is the whole width
+    unfoldable pub walkAll : ℕ → ℕ → Walk
+    walkAll cap n = walk cap (wholeWidth b ∷ []) (start (sampled n))
+
+-- uncut gives best, cut gives the least box distance; the witness is best's either way
+abbrev pub reported : Walk → Float
+reported w = cond (w .cut) (w .least) (w .best .distance)
+
+abbrev pub walked : Walk → CylinderHit
+walked w =
+    record { hit = hit (reported w) (w .best .witness); boxes = length (w .seen); waiting = w .most; cut = w .cut }
+
+-- one box, nothing waiting, uncut
+abbrev pub oneBox : CollisionHit → CylinderHit
+oneBox h = record { hit = h; boxes = 1; waiting = 0; cut = false }
+
+-- radius ≤ 1e-15 measures one box at zc
+abbrev pub thinBox : RadialBand → Aabb
+thinBox b = let r = spanAt b 𝟘 in record { z0 = b .zc; z1 = b .zc; r0 = r .lo; r1 = r .hi }
+
+-- 01's `band_distance`
+unfoldable pub bandDistance : List Float → RadialBand → CylinderHit
+bandDistance s b =
+    cond (b .radius ≼ e-15) (oneBox (boxDistance s (thinBox b))) (walked (walkAll s b e-9 8192 16))
+
+-- the first n pieces of the flat array of start and end, the last one first
+unfoldable pub pieces : List Float → ℕ → List Piece
+pieces w zero = []
+pieces w (suc n) = piece (getD w (2 * n) nan) (getD w (2 * n + 1) nan) ∷ pieces w n

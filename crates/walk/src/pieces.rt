@@ -1,0 +1,66 @@
+// A piece of the cylinder's width: the two spans that its box and its variation share.
+ghost use mathlib.Core.Path.{_≡_};
+ghost use Prim.Native.Nat.{_≤_};
+ghost use Rattle.section.specs.Vertices.{count};
+ghost use Rattle.walk.specs.Pieces as pieces;
+ghost use Rattle.walk.specs.Steps.{spansOf, boxFrom, variationFrom, measuredOf};
+use super::shapes::Measured;
+use super::shapes::Piece;
+use super::shapes::RadialBand;
+use super::shapes::Spans;
+use section::Aabb;
+use section::box_distance;
+
+pub fn whole_width(b: RadialBand) -> Piece
+    ensures { λ r. ⌜ r ≡ pieces.wholeWidth b ⌝ }
+{
+    Piece {
+        z0: b.zc - b.radius,
+        z1: b.zc + b.radius,
+    }
+}
+
+fn spans_of(b: RadialBand, p: Piece) -> Spans
+    ensures { λ r. ⌜ r ≡ spansOf b p ⌝ }
+{
+    let rho = b.rho_bounds(p.z0, p.z1);
+    let widest = b.span_at_rho(rho.hi);
+    let narrowest = b.span_at_rho(rho.lo);
+    Spans { widest, narrowest }
+}
+
+fn box_of(p: Piece, spans: Spans) -> Aabb
+    ensures { λ r. ⌜ r ≡ boxFrom p spans ⌝ }
+{
+    let w = spans.widest;
+    let n = spans.narrowest;
+    Aabb {
+        z0: p.z0,
+        z1: p.z1,
+        r0: arith::min(w.lo, n.lo),
+        r1: arith::max(w.hi, n.hi),
+    }
+}
+
+fn variation_of(spans: Spans) -> f64
+    ensures { λ r. ⌜ r ≡ variationFrom spans ⌝ }
+{
+    let w = spans.widest;
+    let n = spans.narrowest;
+    let lower = arith::max(w.lo, n.lo) - arith::min(w.lo, n.lo);
+    let upper = arith::max(w.hi, n.hi) - arith::min(n.hi, w.hi);
+    arith::max(arith::max(lower, upper), 0.0)
+}
+
+// The distance of the piece's box, and the piece's variation.
+pub fn measure(s: &[f64], b: RadialBand, p: Piece) -> Measured
+    requires { ⌜ 3 ≤ count (now s) ⌝ }
+    ensures { λ r. ⌜ r ≡ measuredOf (now (s .entry)) b p ⌝ }
+{
+    let spans = spans_of(b, p);
+    let hit = box_distance(s, box_of(p, spans));
+    Measured {
+        hit,
+        variation: variation_of(spans),
+    }
+}

@@ -1,0 +1,164 @@
+// The walk over the pieces of a cylinder across the spindle.
+ghost use mathlib.Core.Path.{_≡_};
+ghost use mathlib.Core.Bool.{true, _&&_};
+ghost use Prim.Native.Nat.{_≤_, max};
+ghost use Rattle.arith.specs.F64.{_≺_};
+ghost use Rattle.section.specs.Vertices.{count, hit};
+ghost use Rattle.section.specs.Boxes.{boxDistance};
+ghost use Rattle.walk.specs.Walk as walk;
+ghost use Rattle.walk.specs.Steps.{Room, BandRoom};
+use super::pieces::measure;
+use super::pieces::whole_width;
+use super::samples::sampled;
+use super::shapes::CylinderHit;
+use super::shapes::Measured;
+use super::shapes::Piece;
+use super::shapes::RadialBand;
+use super::waiting::push;
+use super::waiting::push_halves;
+use section::Aabb;
+use section::CollisionHit;
+use section::box_distance;
+use section::nearer_of;
+
+// Agreement required between the bounds.
+const BAND_TOL: f64 = 1e-9;
+
+// Most boxes of one walk.
+const MAX_BAND_STEPS: usize = 8192;
+
+// Intervals between the samples.
+const SAMPLES: usize = 16;
+
+fn dropped(m: CollisionHit, best: CollisionHit) -> bool
+    ensures { λ r. ⌜ r ≡ walk.dropped m best ⌝ }
+{
+    m.distance > best.distance + 1e-12
+}
+
+fn better(m: Measured, best: CollisionHit) -> CollisionHit
+    ensures { λ r. ⌜ r ≡ walk.better (m .hit) (m .variation) best ⌝ }
+{
+    let hit = m.hit;
+    if dropped(hit, best) {
+        return best;
+    }
+    let witness = hit.witness;
+    let distance = hit.distance + m.variation;
+    nearer_of(best, CollisionHit { distance, witness })
+}
+
+fn both_above(tol: f64, variation: f64, width: f64) -> bool
+    ensures { λ r. ⌜ r ≡ ((tol ≺ variation) && (tol ≺ width)) ⌝ }
+{
+    if variation > tol {
+        return width > tol;
+    }
+    false
+}
+
+fn halved(tol: f64, m: Measured, best: CollisionHit, p: Piece) -> bool
+    ensures { λ r. ⌜ r ≡ walk.halved tol (m .hit) (m .variation) best p ⌝ }
+{
+    if dropped(m.hit, best) {
+        return false;
+    }
+    both_above(tol, m.variation, p.z1 - p.z0)
+}
+
+// What is reported of a walk that is cut: the least box distance, with the witness of the best.
+fn cut_off(least: f64, best: CollisionHit, boxes: usize, most: usize) -> CylinderHit
+    ensures {
+        λ r. ⌜
+            r ≡ record { hit = hit least (best .witness); boxes = boxes; waiting = most; cut = true }
+        ⌝
+    }
+{
+    let witness = best.witness;
+    CylinderHit {
+        hit: CollisionHit {
+            distance: least,
+            witness,
+        },
+        boxes,
+        waiting: most,
+        cut: true,
+    }
+}
+
+fn larger(a: usize, b: usize) -> usize
+    ensures { λ r. ⌜ r ≡ max a b ⌝ }
+{
+    if a < b { b } else { a }
+}
+
+// A walk with this tolerance, at most cap boxes and this number of sample intervals.
+fn walk_with(s: &[f64], b: RadialBand, tol: f64, cap: usize, intervals: usize) -> CylinderHit
+    requires { ⌜ (3 ≤ count (now s)) × (intervals ≤ 64) × Room (now s) b tol cap intervals ⌝ }
+    ensures { λ r. ⌜ r ≡ walk.walked (walk.walkAll (now (s .entry)) b tol cap intervals) ⌝ }
+{
+    let mut waiting = [0.0; 108];
+    let mut n = push(&mut waiting, 0, whole_width(b));
+    let mut best = sampled(s, b, intervals);
+    let mut least = arith::infinity();
+    let mut boxes: usize = 0;
+    let mut most: usize = 1;
+    while n > 0 {
+        if boxes == cap {
+            return cut_off(least, best, boxes, most);
+        }
+        let last = n - 1;
+        let at = 2 * last;
+        let z0 = waiting[at];
+        let z1 = waiting[at + 1];
+        let p = Piece { z0, z1 };
+        let m = measure(s, b, p);
+        n = push_halves(&mut waiting, last, p, halved(tol, m, best, p));
+        best = better(m, best);
+        least = arith::min(least, m.hit.distance);
+        boxes += 1;
+        most = larger(most, n);
+    }
+    CylinderHit {
+        hit: best,
+        boxes,
+        waiting: most,
+        cut: false,
+    }
+}
+
+// One box, nothing waiting, uncut.
+pub fn one_box(s: &[f64], x: Aabb) -> CylinderHit
+    requires { ⌜ 3 ≤ count (now s) ⌝ }
+    ensures { λ r. ⌜ r ≡ walk.oneBox (boxDistance (now (s .entry)) x) ⌝ }
+{
+    CylinderHit {
+        hit: box_distance(s, x),
+        boxes: 1,
+        waiting: 0,
+        cut: false,
+    }
+}
+
+// The box of a cylinder across the spindle that is hardly more than a line.
+fn thin_box(b: RadialBand) -> Aabb
+    ensures { λ r. ⌜ r ≡ walk.thinBox b ⌝ }
+{
+    let span = b.span_at_rho(0.0);
+    Aabb {
+        z0: b.zc,
+        z1: b.zc,
+        r0: span.lo,
+        r1: span.hi,
+    }
+}
+
+pub fn band_distance(s: &[f64], b: RadialBand) -> CylinderHit
+    requires { ⌜ (3 ≤ count (now s)) × BandRoom (now s) b ⌝ }
+    ensures { λ r. ⌜ r ≡ walk.bandDistance (now (s .entry)) b ⌝ }
+{
+    if b.radius <= 1e-15 {
+        return one_box(s, thin_box(b));
+    }
+    walk_with(s, b, BAND_TOL, MAX_BAND_STEPS, SAMPLES)
+}
