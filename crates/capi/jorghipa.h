@@ -2,7 +2,7 @@
  *
  * All lengths are mm. A section is 3 to 256 vertices of a polygon in (z, radius), given as a pointer to the
  * numbers z, radius, z, radius, .. and the count of NUMBERS (twice the vertices); the last vertex joins the first.
- * A convex body is given likewise. Every coordinate, bound and radius has magnitude at most 1,048,576.
+ * A convex body is given likewise. Every coordinate, bound, radius and clearance has magnitude at most 1,048,576.
  *
  * A distance is negative inside, 0 on contact. Its witness is a point (z, radius) of the section. Beside a section
  * nowhere over 1e-9 from the axis, a point or a sphere is at +infinity with the first vertex as witness.
@@ -13,6 +13,7 @@
  *    3  over 256 vertices (254 points)        8  under 3 vertices kept (builder)
  *    4  a number is NaN or infinite           9  body radius below 0
  *    5  a magnitude over the limit           10  z1 < z0 or r1 < r0
+ *                                            11  cylinder neither along the spindle nor across it
  *
  * What the caller owes, and nothing checks: every pointer is valid for its count, aligned, and not null even at
  * count 0; and no place that is lent for writing overlaps any other place that is lent to the same call.
@@ -59,6 +60,27 @@ uint32_t jorghipa_build_section(const double *points, size_t points_count, doubl
  * takes negative radii. space needs room for 2 n numbers. Numbers 1 to 5, 7, 8. */
 uint32_t jorghipa_build_polygon(const double *points, size_t points_count, double *space, size_t space_count,
                                 size_t *kept);
+
+/* Distance of the flat-capped cylinder from a to b, along the spindle (z) or across it (x). *boxes counts the boxes
+ * that were measured, *waiting the most pieces that waited at any one time; *cut is 1 where the walk stopped at
+ * 8,192 boxes with a piece still due, and then the distance is the least of the boxes'. Numbers 1 to 5, 9, 11. */
+uint32_t jorghipa_cylinder(const double *section, size_t section_count, double ax, double ay, double az, double bx,
+                           double by, double bz, double radius, double *distance, double *witness_z,
+                           double *witness_radius, uint32_t *boxes, uint32_t *waiting, uint32_t *cut);
+
+/* *collision is 1 exactly when distance + 1e-9 < clearance, else 0. Numbers of the query; 4 and 5 for the clearance. */
+uint32_t jorghipa_verdict_sphere(const double *section, size_t section_count, double x, double y, double z,
+                                 double radius, double clearance, uint32_t *collision);
+
+uint32_t jorghipa_verdict_box(const double *section, size_t section_count, double z0, double z1, double r0, double r1,
+                              double clearance, uint32_t *collision);
+
+uint32_t jorghipa_verdict_cylinder(const double *section, size_t section_count, double ax, double ay, double az,
+                                   double bx, double by, double bz, double radius, double clearance,
+                                   uint32_t *collision);
+
+uint32_t jorghipa_verdict_convex(const double *convex, size_t convex_count, const double *section,
+                                 size_t section_count, double clearance, uint32_t *collision);
 
 #ifdef __cplusplus
 }

@@ -1,6 +1,7 @@
 -- What each case of an answer gives a C caller: the returned number, 0 for none, and what the lent places hold at the end. Where a call
 -- is turned down they hold what they held. Assumes nothing.
-use Prim.Native.Nat.{ℕ}
+use Prim.Native.Nat.{ℕ, _≤_}
+use mathlib.Core.Bool.{Bool, true, false}
 use mathlib.Core.Path.{_≡_}
 use mathlib.Core.List.{List}
 use lib.Ieee.{Float}
@@ -9,6 +10,11 @@ use Rattle.section.specs.declared.shapes.Answer.{Answer}
 use Rattle.section.specs.declared.shapes.Answer.the-variants.{Hit, Refused}
 use Rattle.section.specs.declared.shapes.Kept.{Kept}
 use Rattle.section.specs.declared.shapes.Kept.the-variants.{Numbers, Refused as NotKept}
+use Rattle.walk.specs.declared.shapes.CylinderAnswer.{CylinderAnswer}
+use Rattle.walk.specs.declared.shapes.CylinderAnswer.the-variants.{Hit as Walked, Refused as NotWalked}
+use Rattle.walk.specs.declared.shapes.CylinderHit.{CylinderHit}
+use Rattle.walk.specs.declared.shapes.Verdict.{Verdict}
+use Rattle.walk.specs.declared.shapes.Verdict.the-variants.{Clear, Collision, Refused as NoVerdict}
 
 abbrev pub number : Answer → ℕ
 number (Hit h) = 0
@@ -55,3 +61,59 @@ pub record Builds (a : Kept) (kept : List Float) (n : ℕ) (space₀ space : Lis
   pub returned : n ≡ keptNumber a
   pub count-place : count ≡ keptCount count₀ a
   pub space-place : space ≡ filled kept space₀
+
+-- a cylinder's answer without its counts and mark
+abbrev pub hitPart : CylinderAnswer → Answer
+hitPart (Walked h) = Hit (h .hit)
+hitPart (NotWalked n) = Refused n
+
+abbrev pub boxes : ℕ → CylinderAnswer → ℕ
+boxes held (Walked h) = h .boxes
+boxes held (NotWalked n) = held
+
+abbrev pub waiting : ℕ → CylinderAnswer → ℕ
+waiting held (Walked h) = h .waiting
+waiting held (NotWalked n) = held
+
+-- the mark as a number: 1 cut, 0 uncut
+abbrev pub mark : Bool → ℕ
+mark true = 1
+mark false = 0
+
+abbrev pub cut : ℕ → CylinderAnswer → ℕ
+cut held (Walked h) = mark (h .cut)
+cut held (NotWalked n) = held
+
+-- counts that a u32 holds
+abbrev pub Few : CylinderHit → Type 0
+Few h = (h .boxes ≤ 8192) × (h .waiting ≤ 54)
+
+-- the counts and the mark of a cylinder query, before or after the call
+pub record Counts : Type 0 where
+  pub boxes : ℕ
+  pub waiting : ℕ
+  pub cut : ℕ
+
+abbrev pub counts : ℕ → ℕ → ℕ → Counts
+counts b w c = record { boxes = b; waiting = w; cut = c }
+
+pub record GivesCounts (a : CylinderAnswer) (before after : Counts) : Type 0 where
+  pub boxes-place : after .boxes ≡ boxes (before .boxes) a
+  pub waiting-place : after .waiting ≡ waiting (before .waiting) a
+  pub cut-place : after .cut ≡ cut (before .cut) a
+
+abbrev pub verdictNumber : Verdict → ℕ
+verdictNumber Clear = 0
+verdictNumber Collision = 0
+verdictNumber (NoVerdict n) = n
+
+-- 1 collision, 0 clear
+abbrev pub collision : ℕ → Verdict → ℕ
+collision held Clear = 0
+collision held Collision = 1
+collision held (NoVerdict n) = held
+
+-- a verdict v returns n and takes its place from before to after
+pub record Judges (v : Verdict) (n before after : ℕ) : Type 0 where
+  pub returned : n ≡ verdictNumber v
+  pub collision-place : after ≡ collision before v

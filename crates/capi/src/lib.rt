@@ -7,11 +7,19 @@ ghost use Rattle.arith.specs.Vector.{vec};
 ghost use Rattle.section.specs.Answers.{pointAnswer, sphereAnswer, boxAnswer, convexAnswer};
 ghost use Rattle.section.specs.Answers.{sectionAnswer, polygonAnswer, sectionKept, polygonKept};
 ghost use Rattle.section.specs.Boxes.{aabb};
-ghost use Rattle.capi.specs.Interface.{Gives, Builds, places, keptNumber, keptCount};
+ghost use Rattle.walk.specs.Cover.{OfHit};
+ghost use Rattle.walk.specs.Cylinders.{cylinderAnswer};
+ghost use Rattle.walk.specs.Verdicts.{sphereVerdict, boxVerdict, cylinderVerdict, convexVerdict};
+ghost use Rattle.capi.specs.Interface.{Gives, Builds, GivesCounts, Judges, places, counts, hitPart, mark, Few};
+ghost use Rattle.capi.specs.Interface.{keptNumber, keptCount};
 use arith::Vec3;
+use section::Aabb;
 use section::Answer;
 use section::Kept;
 use section::Sphere;
+use walk::Cylinder;
+use walk::CylinderAnswer;
+use walk::Verdict;
 
 #[no_mangle]
 pub extern "C" fn jorghipa_sqrt(x: f64) -> f64
@@ -149,4 +157,154 @@ pub extern "C" fn jorghipa_build_polygon(points: &[f64], space: &mut [f64], kept
 {
     let answer = section::write_polygon(points, space);
     give_count(answer, kept)
+}
+
+fn hit_part(answer: CylinderAnswer) -> Answer
+    ensures { λ r. ⌜ r ≡ hitPart answer ⌝ }
+{
+    match answer {
+        CylinderAnswer::Hit(h) => Answer::Hit(h.hit),
+        CylinderAnswer::Refused(n) => Answer::Refused(n),
+    }
+}
+
+fn mark_of(cut: bool) -> u32
+    ensures { λ r. ⌜ r ≡ mark cut ⌝ }
+{
+    if cut { 1 } else { 0 }
+}
+
+// Puts the counts and the mark of a hit into the lent places.
+fn give_counts(answer: CylinderAnswer, boxes: &mut u32, waiting: &mut u32, cut: &mut u32)
+    requires { ⌜ OfHit Few answer ⌝ }
+    ensures { λ r. ⌜ GivesCounts answer
+        (counts (now (boxes .entry)) (now (waiting .entry)) (now (cut .entry)))
+        (counts (now (boxes .exit)) (now (waiting .exit)) (now (cut .exit))) ⌝ }
+{
+    match answer {
+        CylinderAnswer::Hit(h) => {
+            *boxes = h.boxes as u32;
+            *waiting = h.waiting as u32;
+            *cut = mark_of(h.cut);
+        }
+        CylinderAnswer::Refused(_) => {}
+    }
+}
+
+#[no_mangle]
+pub extern "C" fn jorghipa_cylinder(
+    section: &[f64],
+    ax: f64,
+    ay: f64,
+    az: f64,
+    bx: f64,
+    by: f64,
+    bz: f64,
+    radius: f64,
+    distance: &mut f64,
+    witness_z: &mut f64,
+    witness_radius: &mut f64,
+    boxes: &mut u32,
+    waiting: &mut u32,
+    cut: &mut u32,
+) -> u32
+    ensures { λ r. ⌜
+        Gives
+        (hitPart (cylinderAnswer (now (section .entry)) (record { a = vec ax ay az; b = vec bx by bz; radius = radius }))) r
+        (places (now (distance .entry)) (now («witness_z» .entry)) (now («witness_radius» .entry)))
+        (places (now (distance .exit)) (now («witness_z» .exit)) (now («witness_radius» .exit)))
+        × GivesCounts
+        (cylinderAnswer (now (section .entry)) (record { a = vec ax ay az; b = vec bx by bz; radius = radius }))
+        (counts (now (boxes .entry)) (now (waiting .entry)) (now (cut .entry)))
+        (counts (now (boxes .exit)) (now (waiting .exit)) (now (cut .exit))) ⌝ }
+{
+    let a = Vec3 { x: ax, y: ay, z: az };
+    let b = Vec3 { x: bx, y: by, z: bz };
+    let answer = walk::query_cylinder(section, Cylinder { a, b, radius });
+    give_counts(answer, boxes, waiting, cut);
+    give(hit_part(answer), distance, witness_z, witness_radius)
+}
+
+// Puts a verdict into its place, and gives the number of a refusal.
+fn judge(verdict: Verdict, collision: &mut u32) -> u32
+    ensures { λ r. ⌜ Judges verdict r (now (collision .entry)) (now (collision .exit)) ⌝ }
+{
+    match verdict {
+        Verdict::Clear => {
+            *collision = 0;
+            0
+        }
+        Verdict::Collision => {
+            *collision = 1;
+            0
+        }
+        Verdict::Refused(n) => n,
+    }
+}
+
+#[no_mangle]
+pub extern "C" fn jorghipa_verdict_sphere(
+    section: &[f64],
+    x: f64,
+    y: f64,
+    z: f64,
+    radius: f64,
+    clearance: f64,
+    collision: &mut u32,
+) -> u32
+    ensures { λ r. ⌜ Judges (sphereVerdict (now (section .entry)) (record { center = vec x y z; radius = radius }) clearance) r (now (collision .entry)) (now (collision .exit)) ⌝ }
+{
+    let center = Vec3 { x, y, z };
+    let verdict = walk::verdict_sphere(section, Sphere { center, radius }, clearance);
+    judge(verdict, collision)
+}
+
+#[no_mangle]
+pub extern "C" fn jorghipa_verdict_box(
+    section: &[f64],
+    z0: f64,
+    z1: f64,
+    r0: f64,
+    r1: f64,
+    clearance: f64,
+    collision: &mut u32,
+) -> u32
+    ensures { λ r. ⌜ Judges (boxVerdict (now (section .entry)) (aabb z0 z1 r0 r1) clearance) r (now (collision .entry)) (now (collision .exit)) ⌝ }
+{
+    let verdict = walk::verdict_box(section, Aabb { z0, z1, r0, r1 }, clearance);
+    judge(verdict, collision)
+}
+
+#[no_mangle]
+pub extern "C" fn jorghipa_verdict_cylinder(
+    section: &[f64],
+    ax: f64,
+    ay: f64,
+    az: f64,
+    bx: f64,
+    by: f64,
+    bz: f64,
+    radius: f64,
+    clearance: f64,
+    collision: &mut u32,
+) -> u32
+    ensures { λ r. ⌜ Judges (cylinderVerdict (now (section .entry)) (record { a = vec ax ay az; b = vec bx by bz; radius = radius }) clearance) r (now (collision .entry)) (now (collision .exit)) ⌝ }
+{
+    let a = Vec3 { x: ax, y: ay, z: az };
+    let b = Vec3 { x: bx, y: by, z: bz };
+    let verdict = walk::verdict_cylinder(section, Cylinder { a, b, radius }, clearance);
+    judge(verdict, collision)
+}
+
+#[no_mangle]
+pub extern "C" fn jorghipa_verdict_convex(
+    convex: &[f64],
+    section: &[f64],
+    clearance: f64,
+    collision: &mut u32,
+) -> u32
+    ensures { λ r. ⌜ Judges (convexVerdict (now (convex .entry)) (now (section .entry)) clearance) r (now (collision .entry)) (now (collision .exit)) ⌝ }
+{
+    let verdict = walk::verdict_convex(section, convex, clearance);
+    judge(verdict, collision)
 }

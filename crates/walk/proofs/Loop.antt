@@ -61,8 +61,8 @@ module _ (s : List Float) (b : RadialBand) (tol : Float) (cap intervals : ℕ) w
   step : (w : List Float) (k n fuel fuel′ : ℕ) (x : Walk) → n ≡ suc k → fuel ≡ suc fuel′
       → walk s b tol fuel (pieces w n) x ≡ whole
       → let p = pieceAt w k in
-        let ps = pieces w k in
-        walk s b tol fuel′ (waiting s b tol p ps (x .best)) (measured s b tol p ps x) ≡ whole
+      let ps = pieces w k in
+      walk s b tol fuel′ (waiting s b tol p ps (x .best)) (measured s b tol p ps x) ≡ whole
   unfolding walk pieces
   step w k n fuel fuel′ x e f a = sym (rw (e, f)) ∙ a
 
@@ -143,19 +143,19 @@ module _ {s : List Float} {b : RadialBand} {tol : Float} {cap intervals : ℕ} w
             let grown = most-grows s b tol cap intervals (cap - suc boxes) next (measured s b tol p (pieces w k) now) in
             let g : maxℕ most (length next) ≤ walkAll s b tol cap intervals .most = rw onward at grown in
             let l : length next ≡ suc (suc k) =
-                rw (← waits refl, on) (ap (λ (x : ℕ). suc (suc x)) (pieces-length w k)) in
+            rw (← waits refl, on) (ap (λ (x : ℕ). suc (suc x)) (pieces-length w k)) in
             omega (arith, room)
 
         carry : (ps : List Piece) (x : Measured) (most′ : ℕ)
             → ps ≡ next → x ≡ measuredOf s b p → most′ ≡ maxℕ most (length next)
             → walk s b tol (cap - suc boxes) ps
-              (soFar (better (x .hit) (x .variation) best) (min least (x .hit .distance)) most′ (p ∷ S .seen))
-              ≡ walkAll s b tol cap intervals
+            (soFar (better (x .hit) (x .variation) best) (min least (x .hit .distance)) most′ (p ∷ S .seen))
+            ≡ walkAll s b tol cap intervals
         carry ps x most′ u v y = rw (u, v, y) onward
 
         pub turned : {w′ : List Float} {n′ : ℕ} → (n′ ≤ 54) × Waits (pieces w′ n′) → length w′ ≡ 108
             → State s b tol cap intervals w′ n′ (boxes + 1) (maxℕ most n′)
-              (min least (m .hit .distance)) (better (m .hit) (m .variation) best)
+            (min least (m .hit .distance)) (better (m .hit) (m .variation) best)
         turned {w′} {n′} q l =
             record {
               fuel = cap - suc boxes;

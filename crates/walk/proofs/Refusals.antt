@@ -57,9 +57,9 @@ fewer-tests false false false false false d′ e′ own f g h = rw (f refl, g re
 any-front : (test : Float → Bool) (l k : List Float) → anyOf test (l ++ k) ≡ false → anyOf test l ≡ false
 any-front test l k e = first (anyOf test l) (sym (any-of-append test l k) ∙ e)
   where
-  first : (a : Bool) → (a || anyOf test k) ≡ false → a ≡ false
-  first true f = f
-  first false f = refl
+    first : (a : Bool) → (a || anyOf test k) ≡ false → a ≡ false
+    first true f = f
+    first false f = refl
 
 pub fewer-numbers : (s l k : List Float) (own : ℕ) → queryRefusal (s ∷ []) (s ++ (l ++ k)) own ≡ 0
     → queryRefusal (s ∷ []) (s ++ l) own ≡ 0

@@ -64,9 +64,11 @@ pub record Across (s : List Float) (c : Cylinder) (h : CylinderHit) : Type 0 whe
   pub walk : h ≡ walked (walkAll s (bandOf c) e-9 8192 16)
   pub covers : Covers s (bandOf c) e-9 8192 16 (walkAll s (bandOf c) e-9 8192 16)
 
--- Demands 1 and 3 of a hit: always finite, also beside a section on the axis only
+-- Demands 1 and 3 of a hit: always finite, also beside a section on the axis only; counts within their limits
 pub record Promised (s : List Float) (c : Cylinder) (h : CylinderHit) : Type 0 where
   pub bounded : Bounded (h .hit)
+  pub boxes : h .boxes ≤ 8192
+  pub waiting : h .waiting ≤ 54
   pub across : axis c ≡ Radial → T (e-15 ≺ c .radius) → Across s c h
 
 -- a hit has it; a refusal owes nothing

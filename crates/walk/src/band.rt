@@ -39,7 +39,10 @@ fn radius_span(x0: f64, x1: f64, y0: f64, y1: f64) -> Span
 {
     let lo = arith::hypot(closest_to_zero(x0, x1), closest_to_zero(y0, y1));
     let first = arith::max(arith::hypot(x0, y0), arith::hypot(x0, y1));
-    let hi = arith::max(arith::max(first, arith::hypot(x1, y0)), arith::hypot(x1, y1));
+    let hi = arith::max(
+        arith::max(first, arith::hypot(x1, y0)),
+        arith::hypot(x1, y1),
+    );
     Span { lo, hi }
 }
 
@@ -72,11 +75,9 @@ impl RadialBand {
 
     // The least and the greatest half width from za to zb.
     pub fn rho_bounds(self, za: f64, zb: f64) -> Span
-        ensures {
-            λ r. ⌜
-                r ≡ span (min (halfWidth self za) (halfWidth self zb)) (halfWidth self (clamp (self .zc) za zb))
-            ⌝
-        }
+        ensures { λ r. ⌜
+            r ≡ span (min (halfWidth self za) (halfWidth self zb)) (halfWidth self (clamp (self .zc) za zb))
+            ⌝ }
     {
         let hi = self.rho_at(arith::clamp(self.zc, za, zb));
         let lo = arith::min(self.rho_at(za), self.rho_at(zb));

@@ -10,6 +10,7 @@ mod shapes;
 mod verdicts;
 mod waiting;
 mod walk;
+
 pub use queries::query_cylinder;
 pub use shapes::Cylinder;
 pub use shapes::CylinderAnswer;

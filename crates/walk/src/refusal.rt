@@ -62,13 +62,11 @@ pub fn cylinder_refusal(s: &[f64], c: Cylinder, axis: Axis) -> u32
 // The same with a clearance among the numbers that are given.
 pub fn cleared_refusal(s: &[f64], c: Cylinder, clearance: f64, axis: Axis) -> u32
     requires { ⌜ axis ≡ axes.axis c ⌝ }
-    ensures {
-        λ r. ⌜
-            (r ≡ queryRefusal (now (s .entry) ∷ []) (now (s .entry) ++ (cylinderNumbers c ++ (clearance ∷ [])))
-                (ownNumber (c .radius) (axes.axis c)))
-            × (r ≡ 0 → 3 ≤ count (now (s .entry)))
-        ⌝
-    }
+    ensures { λ r. ⌜
+        (r ≡ queryRefusal (now (s .entry) ∷ []) (now (s .entry) ++ (cylinderNumbers c ++ (clearance ∷ [])))
+        (ownNumber (c .radius) (axes.axis c)))
+        × (r ≡ 0 → 3 ≤ count (now (s .entry)))
+        ⌝ }
 {
     let a = c.a;
     let b = c.b;

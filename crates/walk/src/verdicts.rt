@@ -60,7 +60,10 @@ pub fn verdict_cylinder(section: &[f64], cylinder: Cylinder, clearance: f64) -> 
     if number != 0 {
         return Verdict::Refused(number);
     }
-    judged(cylinder_distance(section, cylinder, axis).hit.distance, clearance)
+    judged(
+        cylinder_distance(section, cylinder, axis).hit.distance,
+        clearance,
+    )
 }
 
 pub fn verdict_convex(section: &[f64], convex: &[f64], clearance: f64) -> Verdict

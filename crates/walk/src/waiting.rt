@@ -22,12 +22,10 @@ pub fn push(waiting: &mut [f64; 108], n: usize, p: Piece) -> usize
 // Both halves of p wait above the first n, the left one first, if p is halved.
 pub fn push_halves(waiting: &mut [f64; 108], n: usize, p: Piece, halve: bool) -> usize
     requires { ⌜ (n ≤ 54) × (halve ≡ true → n + 2 ≤ 54) × (length (now waiting) ≡ 108) ⌝ }
-    ensures {
-        λ r. ⌜
-            (r ≤ 54)
-            × (let ps = pieces (now (waiting .entry)) n in pieces (now (waiting .exit)) r ≡ cond halve (halves p ps) ps)
-        ⌝
-    }
+    ensures { λ r. ⌜
+        (r ≤ 54)
+        × (let ps = pieces (now (waiting .entry)) n in pieces (now (waiting .exit)) r ≡ cond halve (halves p ps) ps)
+        ⌝ }
     ensures { λ _. ⌜ length (now (waiting .exit)) ≡ 108 ⌝ }
 {
     if halve {

@@ -68,11 +68,9 @@ fn halved(tol: f64, m: Measured, best: CollisionHit, p: Piece) -> bool
 
 // What is reported of a walk that is cut: the least box distance, with the witness of the best.
 fn cut_off(least: f64, best: CollisionHit, boxes: usize, most: usize) -> CylinderHit
-    ensures {
-        λ r. ⌜
-            r ≡ record { hit = hit least (best .witness); boxes = boxes; waiting = most; cut = true }
-        ⌝
-    }
+    ensures { λ r. ⌜
+        r ≡ record { hit = hit least (best .witness); boxes = boxes; waiting = most; cut = true }
+        ⌝ }
 {
     let witness = best.witness;
     CylinderHit {

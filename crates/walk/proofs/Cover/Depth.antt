@@ -56,7 +56,7 @@ module _ (b : RadialBand) (B : InLimit b) where
   wide : K (c ⊕ r) - K (c ⊖ r) ≤ W
   wide =
       let f = reach (K c) (K r) M (2 ^ 1094) (2 ^ 1096) (B .zc .lower) (B .zc .upper) (B .radius .lower)
-          (B .radius .upper) (lit< tt) in
+      (B .radius .upper) (lit< tt) in
       let few : 2 ^ 1096 ≤ M = unfold mid in lit≤ tt in
       let u = roundKey-near binary64 (K c + K r) (M + M) 1 1043 (pow-pos 0) (f .0) (f .1) few in
       let v = roundKey-near binary64 (K c) (K r) 1 1043 (pow-pos 0) (f .2) (f .3) few in
@@ -134,10 +134,10 @@ halve tol t j p P w =
     let a = P .sound .z0 in
     let b = P .sound .z1 in
     let S = split binary64 (p .z0) (p .z1) tol ½ (2 ^ 1095) 1044 W 52 j (scale tol t) (a .sure) (b .sure)
-        (bounded-within binary64 1095 (p .z0) a) (bounded-within binary64 1095 (p .z1) b) (P .sound .order)
-        (P .narrow) w in
+    (bounded-within binary64 1095 (p .z0) a) (bounded-within binary64 1095 (p .z1) b) (P .sound .order)
+    (P .narrow) w in
     let m : Place (mean (p .z0) (p .z1)) = between-bounded binary64 1095 (p .z0) (mean (p .z0) (p .z1)) (p .z1)
-        (number-of binary64 _ (S .between .sure)) (lit< tt) a b (S .between .low-end) (S .between .high-end) in
+    (number-of binary64 _ (S .between .sure)) (lit< tt) a b (S .between .low-end) (S .between .high-end) in
     record {
       shallow = S .shallow;
       left = record { sound = record { z0 = a; z1 = m; order = S .between .low-end }; narrow = S .left };

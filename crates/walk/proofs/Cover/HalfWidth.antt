@@ -105,7 +105,7 @@ module _ (b : RadialBand) (B : InLimit b) where
       let dm = sub-bound N (B .zc) tt in
       let dz = sub-bound Z (B .zc) tt in
       let squares = square-key-mono binary64 (m ⊖ b .zc) (z ⊖ b .zc) (dm .sure) (dz .sure)
-          (offset-mono (b .zc) m z (B .zc .sure) (N .sure) (Z .sure) h) in
+      (offset-mono (b .zc) m z (B .zc .sure) (N .sure) (Z .sure) h) in
       rootOf-mono (radicand z) (radicand m) (radicand-bounded z Z .sure) (radicand-bounded m N .sure)
       (sub-key-mono binary64 _ _ _ _ (r .sure) (r .sure) (mul-bound dz dz tt .sure) (mul-bound dm dm tt .sure)
       (le-refl _) squares)

@@ -131,11 +131,11 @@ module _ (b : RadialBand) (B : InLimit b) where
   span-nested ρ ρ′ h h′ l = (
     inner,
     rw (hi-key ρ s, hi-key ρ′ s′)
-    (corners-mono _ _ _ _ _ _ _ _
-    (side (b .x0) (B .x0 .sure) (b .yc ⊖ ρ) (s .y0 .sure) (le-refl _) (s .order))
-    (side (b .x0) (B .x0 .sure) (b .yc ⊕ ρ) (s .y1 .sure) (s .order) (le-refl _))
-    (side (b .x1) (B .x1 .sure) (b .yc ⊖ ρ) (s .y0 .sure) (le-refl _) (s .order))
-    (side (b .x1) (B .x1 .sure) (b .yc ⊕ ρ) (s .y1 .sure) (s .order) (le-refl _))),
+        (corners-mono _ _ _ _ _ _ _ _
+        (side (b .x0) (B .x0 .sure) (b .yc ⊖ ρ) (s .y0 .sure) (le-refl _) (s .order))
+        (side (b .x0) (B .x0 .sure) (b .yc ⊕ ρ) (s .y1 .sure) (s .order) (le-refl _))
+        (side (b .x1) (B .x1 .sure) (b .yc ⊖ ρ) (s .y0 .sure) (le-refl _) (s .order))
+        (side (b .x1) (B .x1 .sure) (b .yc ⊕ ρ) (s .y1 .sure) (s .order) (le-refl _))),
   )
     where
       s : Sides ρ

@@ -19,8 +19,7 @@ query-refusal-requires c κs =
 returns : tie.Need-returns
 unfolding cylinderRefusal
 returns c =
-    let start = c .before .before .before .before .before .before in
-    (
+    let start = c .before .before .before .before .before .before in (
       rw (← start .pre, ← c .before .own-number .ensures) (c .query-refusal .ensures .0),
       c .query-refusal .ensures .1,
     )

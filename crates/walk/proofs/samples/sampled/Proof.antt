@@ -39,10 +39,10 @@ loop-less c = search needs
 
 loop-again : tie.Need-loop-again Inv-loop μ-loop
 loop-again c = (
-      search needs,
-      upto-more _ _ _ (c .before .before .before .loop .inv .1)
+  search needs,
+  upto-more _ _ _ (c .before .before .before .loop .inv .1)
       (rw (← c .before .sample-z .ensures) (c .sample-at .ensures)),
-    )
+)
 
 returns : tie.Need-returns Inv-loop μ-loop
 unfolding sampled

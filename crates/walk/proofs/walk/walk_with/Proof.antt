@@ -73,8 +73,7 @@ push-halves-requires c κs =
     let start = looped .before .before .before .before .before .before .before in
     let state = looped .loop .inv in
     let left = has-box state (test .if1 .left) in
-    let measured = c .before .before .measure .ensures in
-    (
+    let measured = c .before .before .measure .ensures in (
       omega (arith, state .few),
       has-room state (test .before .loop-test .taken) left measured (c .halved .ensures) (start .pre .2),
       state .stored,
