@@ -97,6 +97,13 @@ pub record Counts : Type 0 where
 abbrev pub counts : ℕ → ℕ → ℕ → Counts
 counts b w c = record { boxes = b; waiting = w; cut = c }
 
+-- the counts and the mark of the hit h
+pub record Counted (h : CylinderHit) (after : Counts) : Type 0 where
+  pub boxes : after .boxes ≡ h .boxes
+  pub waiting : after .waiting ≡ h .waiting
+  pub cut : after .cut ≡ mark (h .cut)
+
+-- a cylinder query with the answer a takes its counts from before to after
 pub record GivesCounts (a : CylinderAnswer) (before after : Counts) : Type 0 where
   pub boxes-place : after .boxes ≡ boxes (before .boxes) a
   pub waiting-place : after .waiting ≡ waiting (before .waiting) a

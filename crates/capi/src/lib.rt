@@ -7,10 +7,9 @@ ghost use Rattle.arith.specs.Vector.{vec};
 ghost use Rattle.section.specs.Answers.{pointAnswer, sphereAnswer, boxAnswer, convexAnswer};
 ghost use Rattle.section.specs.Answers.{sectionAnswer, polygonAnswer, sectionKept, polygonKept};
 ghost use Rattle.section.specs.Boxes.{aabb};
-ghost use Rattle.walk.specs.Cover.{OfHit};
 ghost use Rattle.walk.specs.Cylinders.{cylinderAnswer};
 ghost use Rattle.walk.specs.Verdicts.{sphereVerdict, boxVerdict, cylinderVerdict, convexVerdict};
-ghost use Rattle.capi.specs.Interface.{Gives, Builds, GivesCounts, Judges, places, counts, hitPart, mark, Few};
+ghost use Rattle.capi.specs.Interface.{Gives, Builds, GivesCounts, Judges, places, counts, hitPart, mark, Few, Counted};
 ghost use Rattle.capi.specs.Interface.{keptNumber, keptCount};
 use arith::Vec3;
 use section::Aabb;
@@ -19,6 +18,7 @@ use section::Kept;
 use section::Sphere;
 use walk::Cylinder;
 use walk::CylinderAnswer;
+use walk::CylinderHit;
 use walk::Verdict;
 
 #[no_mangle]
@@ -159,15 +159,6 @@ pub extern "C" fn jorghipa_build_polygon(points: &[f64], space: &mut [f64], kept
     give_count(answer, kept)
 }
 
-fn hit_part(answer: CylinderAnswer) -> Answer
-    ensures { λ r. ⌜ r ≡ hitPart answer ⌝ }
-{
-    match answer {
-        CylinderAnswer::Hit(h) => Answer::Hit(h.hit),
-        CylinderAnswer::Refused(n) => Answer::Refused(n),
-    }
-}
-
 fn mark_of(cut: bool) -> u32
     ensures { λ r. ⌜ r ≡ mark cut ⌝ }
 {
@@ -175,20 +166,13 @@ fn mark_of(cut: bool) -> u32
 }
 
 // Puts the counts and the mark of a hit into the lent places.
-fn give_counts(answer: CylinderAnswer, boxes: &mut u32, waiting: &mut u32, cut: &mut u32)
-    requires { ⌜ OfHit Few answer ⌝ }
-    ensures { λ r. ⌜ GivesCounts answer
-        (counts (now (boxes .entry)) (now (waiting .entry)) (now (cut .entry)))
-        (counts (now (boxes .exit)) (now (waiting .exit)) (now (cut .exit))) ⌝ }
+fn give_counts(h: CylinderHit, boxes: &mut u32, waiting: &mut u32, cut: &mut u32)
+    requires { ⌜ Few h ⌝ }
+    ensures { λ r. ⌜ Counted h (counts (now (boxes .exit)) (now (waiting .exit)) (now (cut .exit))) ⌝ }
 {
-    match answer {
-        CylinderAnswer::Hit(h) => {
-            *boxes = h.boxes as u32;
-            *waiting = h.waiting as u32;
-            *cut = mark_of(h.cut);
-        }
-        CylinderAnswer::Refused(_) => {}
-    }
+    *boxes = h.boxes as u32;
+    *waiting = h.waiting as u32;
+    *cut = mark_of(h.cut);
 }
 
 #[no_mangle]
@@ -218,11 +202,25 @@ pub extern "C" fn jorghipa_cylinder(
         (counts (now (boxes .entry)) (now (waiting .entry)) (now (cut .entry)))
         (counts (now (boxes .exit)) (now (waiting .exit)) (now (cut .exit))) ⌝ }
 {
-    let a = Vec3 { x: ax, y: ay, z: az };
-    let b = Vec3 { x: bx, y: by, z: bz };
+    let a = Vec3 {
+        x: ax,
+        y: ay,
+        z: az,
+    };
+    let b = Vec3 {
+        x: bx,
+        y: by,
+        z: bz,
+    };
     let answer = walk::query_cylinder(section, Cylinder { a, b, radius });
-    give_counts(answer, boxes, waiting, cut);
-    give(hit_part(answer), distance, witness_z, witness_radius)
+    match answer {
+        CylinderAnswer::Hit(h) => {
+            let hit = h.hit;
+            give_counts(h, boxes, waiting, cut);
+            give(Answer::Hit(hit), distance, witness_z, witness_radius)
+        }
+        CylinderAnswer::Refused(n) => n,
+    }
 }
 
 // Puts a verdict into its place, and gives the number of a refusal.
@@ -290,8 +288,16 @@ pub extern "C" fn jorghipa_verdict_cylinder(
 ) -> u32
     ensures { λ r. ⌜ Judges (cylinderVerdict (now (section .entry)) (record { a = vec ax ay az; b = vec bx by bz; radius = radius }) clearance) r (now (collision .entry)) (now (collision .exit)) ⌝ }
 {
-    let a = Vec3 { x: ax, y: ay, z: az };
-    let b = Vec3 { x: bx, y: by, z: bz };
+    let a = Vec3 {
+        x: ax,
+        y: ay,
+        z: az,
+    };
+    let b = Vec3 {
+        x: bx,
+        y: by,
+        z: bz,
+    };
     let verdict = walk::verdict_cylinder(section, Cylinder { a, b, radius }, clearance);
     judge(verdict, collision)
 }
