@@ -1,5 +1,5 @@
 -- Bytes moved to the front one by one: each is read before it is written over.
-use Prim.Native.Nat.{ℕ, _+_, _-_, _<_, _≤_}
+use Prim.Native.Nat.{ℕ, _+_, _<_, _≤_}
 use mathlib.Core.List.{List}
 use mathlib.Core.Path.{_≡_, subst, _∙_}
 use native.Mathlib.Nat.{add-comm, zero-add}

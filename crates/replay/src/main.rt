@@ -1,27 +1,37 @@
 // Replays a list of queries: each line of standard input is a query, and each line of standard
-// output the answer to one, or `malformed`. A query is a letter, its kind, then its fields, each
-// behind a space. An f64 is the 16 hex digits of its bits, in lower case.
-//     r x     the root of x
-//     h a b   the hypot of a and b
+// output the reply to one, or `malformed`. A query is a letter, its kind, then its fields, each
+// behind a space. An f64 is the 16 hex digits of its bits, in lower case. A list stands after the
+// count of its numbers, 4 hex digits, at most 1,024; so does k, the size of a builder's space.
+//     r x                       the root of x
+//     h a b                     the hypot of a and b
+//     p n s.. x y z             the distance of a point from the section s
+//     s n s.. x y z radius      of a sphere
+//     b n s.. z0 z1 r0 r1       of a box
+//     c n convex.. m section..  of a convex body
+//     S n points.. k            the builder of a section
+//     P n points.. k            the builder of a polygon
+// A distance is replied with its witness's z and radius; a builder with the count of the numbers
+// that it keeps, in decimal, and these, or with `damaged` where it changed any other number of its
+// space. What is turned down is `refused` and the number.
 ghost use Prim.Native.Nat.{_≤_};
 ghost use lib.ListN.{length};
 
 mod bits;
+mod builders;
 mod line;
+mod lists;
+mod queries;
+mod replies;
 mod text;
 
-use bits::float;
 use bits::pattern;
+use builders::BLANK;
 use libc::STDOUT_FILENO;
 use line::line_end;
 use line::read_more;
 use line::to_front;
-use text::field_at;
-
-enum Answer {
-    Number(f64),
-    Malformed,
-}
+use replies::Reply;
+use section::CollisionHit;
 
 // What is read and not yet answered, the bytes of the buffer from start up to end; and whether the
 // input has ended.
@@ -31,46 +41,71 @@ struct Held {
     ended: bool,
 }
 
-// A kind's fields follow each other, and the last one ends the line.
-fn sqrt(line: &[u8]) -> Answer {
-    let x = field_at(line, 1, 16);
-    if x.next == line.len() {
-        Answer::Number(arith::sqrt(float(x.value)))
-    } else {
-        Answer::Malformed
-    }
-}
-
-fn hypot(line: &[u8]) -> Answer {
-    let a = field_at(line, 1, 16);
-    let b = field_at(line, a.next, 16);
-    if b.next == line.len() {
-        Answer::Number(arith::hypot(float(a.value), float(b.value)))
-    } else {
-        Answer::Malformed
-    }
-}
-
-fn answer_to(line: &[u8]) -> Answer {
+fn reply_to(line: &[u8], space: &mut [f64]) -> Reply {
     if line.len() == 0 {
-        return Answer::Malformed;
+        return Reply::Malformed;
     }
     match line[0] {
-        b'r' => sqrt(line),
-        b'h' => hypot(line),
-        _ => Answer::Malformed,
+        b'r' => queries::sqrt(line),
+        b'h' => queries::hypot(line),
+        b'p' => queries::point(line),
+        b's' => queries::sphere(line),
+        b'b' => queries::aabb(line),
+        b'c' => queries::convex(line),
+        b'S' => builders::section(line, space),
+        b'P' => builders::polygon(line, space),
+        _ => Reply::Malformed,
     }
 }
 
-fn print(answer: Answer) -> bool {
-    match answer {
-        Answer::Number(x) => io::print_hex(STDOUT_FILENO, pattern(x), 16),
-        Answer::Malformed => io::write_all(STDOUT_FILENO, b"malformed"),
+fn print_number(x: f64) -> bool {
+    io::print_hex(STDOUT_FILENO, pattern(x), 16)
+}
+
+fn print_next(x: f64) -> bool {
+    io::write_all(STDOUT_FILENO, b" ");
+    print_number(x)
+}
+
+fn print_hit(hit: CollisionHit) -> bool {
+    print_number(hit.distance);
+    print_next(hit.witness.z);
+    print_next(hit.witness.r)
+}
+
+fn print_refused(number: u32) -> bool {
+    io::write_all(STDOUT_FILENO, b"refused ");
+    io::print_decimal(STDOUT_FILENO, number as u64)
+}
+
+// How many numbers a builder keeps, and these.
+fn print_kept(space: &[f64], n: usize) -> bool {
+    let mut printed = io::print_decimal(STDOUT_FILENO, n as u64);
+    let mut i = 0;
+    while i < n {
+        if i < space.len() {
+            printed = print_next(space[i]);
+        }
+        i += 1;
+    }
+    printed
+}
+
+fn print(reply: Reply, space: &[f64]) -> bool {
+    match reply {
+        Reply::Number(x) => print_number(x),
+        Reply::Hit(hit) => print_hit(hit),
+        Reply::Kept(n) => print_kept(space, n),
+        Reply::Refused(number) => print_refused(number),
+        Reply::Damaged => io::write_all(STDOUT_FILENO, b"damaged"),
+        Reply::Malformed => io::write_all(STDOUT_FILENO, b"malformed"),
     }
 }
 
 fn reply(line: &[u8]) -> bool {
-    print(answer_to(line));
+    let mut space = [BLANK; 1024];
+    let reply = reply_to(line, &mut space);
+    print(reply, &space);
     io::write_all(STDOUT_FILENO, b"\n")
 }
 

@@ -1,0 +1,89 @@
+// Lists a store: it is read from standard input to its end, and its listing is written to standard
+// output. A read that fails counts as the end.
+ghost use mathlib.Core.Path.{_≡_};
+ghost use Prim.Native.Nat.{_+_, _≤_, _<_, _^_};
+ghost use lib.ListN.{length, set};
+ghost use lib.Seq.{sets};
+use libc::STDIN_FILENO;
+use libc::STDOUT_FILENO;
+use store::ListAnswer;
+use store::StoreAnswer;
+
+// Past the buffer nothing is kept.
+fn keep_byte(buffer: &mut [u8], at: usize, x: u8)
+    ensures { λ _. ⌜ now (buffer .exit) ≡ set (now (buffer .entry)) at x ⌝ }
+{
+    if at < buffer.len() {
+        buffer[at] = x;
+    }
+}
+
+fn keep(buffer: &mut [u8], from: usize, piece: &[u8])
+    requires { ⌜ from + length (now piece) < 2 ^ 64 ⌝ }
+    ensures { λ _. ⌜ now (buffer .exit) ≡ sets (now (buffer .entry)) from (now (piece .entry)) ⌝ }
+{
+    let mut i = 0;
+    while i < piece.len() {
+        keep_byte(buffer, from + i, piece[i]);
+        i += 1;
+    }
+}
+
+// Reads once, keeps what came behind the first `from` bytes, and says how many bytes came.
+fn read_piece(buffer: &mut [u8], from: usize) -> usize
+    requires { ⌜ from + 4096 < 2 ^ 64 ⌝ }
+    ensures { λ r. ⌜ r ≤ 4096 ⌝ }
+{
+    let mut piece = io::buffer();
+    let got = libc::read(STDIN_FILENO, &mut piece);
+    let n = io::count(got, &piece);
+    keep(buffer, from, &piece[..n]);
+    n
+}
+
+// Reads to the end and says how many bytes came in all, kept or not. A proved loop has to end, so
+// it counts its turns down, from a number that no run uses up.
+fn read_all(buffer: &mut [u8]) -> usize {
+    let mut length = 0;
+    let mut turns: usize = 1 << 50;
+    while turns > 0 {
+        let n = read_piece(buffer, length);
+        if n == 0 {
+            return length;
+        }
+        length += n;
+        turns -= 1;
+    }
+    length
+}
+
+fn write_refusal(number: u32, k: u32) {
+    let mut line = [0u8; 33];
+    let n = store::refusal_line(number, k, &mut line);
+    io::write_all(STDOUT_FILENO, &line[..n]);
+}
+
+fn write_listing(bytes: &[u8]) {
+    let mut text = [0u8; 27848];
+    let answer = store::list_store(bytes, &mut text);
+    match answer {
+        ListAnswer::Refused(number, k) => write_refusal(number, k),
+        ListAnswer::Bytes(n) => {
+            io::write_all(STDOUT_FILENO, &text[..n]);
+        }
+    }
+}
+
+// An input that is longer than every store is judged by its length.
+fn main() {
+    let mut buffer = [0u8; 20480];
+    let length = read_all(&mut buffer);
+    if length <= 20480 {
+        write_listing(&buffer[..length]);
+        return;
+    }
+    let answer = store::length_answer(length);
+    if let StoreAnswer::Refused(number, k) = answer {
+        write_refusal(number, k);
+    }
+}

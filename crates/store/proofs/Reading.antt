@@ -1,0 +1,117 @@
+-- The verdict on a store, part by part: the length, the links, the kinds and the section. Assumes nothing.
+use Prim.Native.Nat.{ℕ, zero, suc, _*_, _/_, _%_, _<_, _≤_}
+use native.Mathlib.Omega.{arith}
+use mathlib.Core.Bool.{Bool, true, false, _&&_, _||_, cond}
+use mathlib.Core.List.{List, [], _∷_}
+use mathlib.Core.Path.{_≡_, refl, sym, ap, _∙_}
+use lib.ListN.{length}
+use lib.Dec.{eqb, leb}
+use lib.Ieee.{Float}
+use borrow.Author.Tests.{ne-eqb, lt-ltb, le-ltb, ltb-false, leb-true}
+use Rattle.section.specs.Vertices.{count}
+use Rattle.section.specs.Refusals.{anyOf, odd, fewer, more, numbersRefusal, queryRefusal}
+use Rattle.store.specs.Records.{records, rightLength}
+use Rattle.store.specs.Chain.{Chain, whole, broken, chain, inOrder}
+use Rattle.store.specs.Kinds.{kindsAnswer}
+use Rattle.store.specs.Store.{andThen, lengthAnswer, linksAnswer, vertices, numbered, sectionAnswer, chained, storeAnswer}
+use Rattle.store.specs.declared.answers.StoreAnswer.{StoreAnswer}
+use Rattle.store.specs.declared.answers.StoreAnswer.the-variants.{Accepted, Refused}
+
+never : {n k : ℕ} → Refused n k ≡ Accepted → ⊥
+never e = let z : _≡_ {A = ℕ} 0 1 = cc in omega arith
+
+-- an accepted length is that of 1 to 512 records
+all-three : (a b c : Bool) → cond (a && (b && c)) Accepted (Refused 12 0) ≡ Accepted → (b ≡ true) × (c ≡ true)
+all-three true true true e = (refl, refl)
+all-three true true false e = absurd (never e)
+all-three true false c e = absurd (never e)
+all-three false b c e = absurd (never e)
+
+pub length-accepted : (n : ℕ) → lengthAnswer n ≡ Accepted → (1 ≤ n / 40) × (n / 40 ≤ 512)
+unfolding lengthAnswer rightLength
+length-accepted n e =
+    let h : (leb 1 (n / 40) ≡ true) × (leb (n / 40) 512 ≡ true) =
+    all-three (eqb (n % 40) 0) (leb 1 (n / 40)) (leb (n / 40) 512) e in
+    (leb-true 1 (n / 40) (h .0), leb-true (n / 40) 512 (h .1))
+
+-- the section's number
+pub section-number : {t s : List Float} {n : ℕ} → t ≡ s → n ≡ queryRefusal (t ∷ []) t 0 → sectionAnswer s ≡ numbered n
+unfolding sectionAnswer
+section-number e h = rw (← e, h)
+
+pub numbered-refused : (n : ℕ) → (n ≡ 0 → ⊥) → numbered n ≡ Refused n 0
+numbered-refused zero h = absurd (h refl)
+numbered-refused (suc n) h = refl
+
+-- an accepted section has 3 to 256 vertices
+three-tests :
+    (a b c : Bool) (rest : ℕ) → numbered (cond (a || false) 1 (cond (b || false) 2 (cond (c || false) 3 rest))) ≡ Accepted
+    → (b ≡ false) × (c ≡ false)
+three-tests true b c rest e = absurd (never e)
+three-tests false true c rest e = absurd (never e)
+three-tests false false true rest e = absurd (never e)
+three-tests false false false rest e = (refl, refl)
+
+pub section-accepted : (s : List Float) → sectionAnswer s ≡ Accepted → (3 ≤ count s) × (count s ≤ 256)
+unfolding sectionAnswer queryRefusal anyOf
+section-accepted s e =
+    let h : (fewer 3 s ≡ false) × (more 256 s ≡ false) = three-tests (odd s) (fewer 3 s) (more 256 s) (numbersRefusal s 0) e in
+    (ltb-false (count s) 3 (h .0), ltb-false 256 (count s) (h .1))
+
+pub too-many : (s : List Float) (n : ℕ) → length s ≡ n * 2 → 256 < n → sectionAnswer s ≡ Refused 3 0
+unfolding sectionAnswer queryRefusal anyOf
+too-many s n e h =
+    rw (e, ne-eqb (n * 2 % 2) 1 (omega arith), le-ltb (n * 2 / 2) 3 (omega arith), lt-ltb 256 (n * 2 / 2) (omega arith))
+
+-- an accepted store is accepted in every part
+both : (a c : StoreAnswer) → andThen a c ≡ Accepted → (a ≡ Accepted) × (c ≡ Accepted)
+both Accepted c e = (refl, e)
+both (Refused n k) c e = absurd (never e)
+
+whole-chain : (c : Chain) → linksAnswer c ≡ Accepted → c ≡ whole (inOrder c)
+whole-chain (whole ks) e = refl
+whole-chain (broken k) e = absurd (never e)
+
+pub record Sound (b : List ℕ) : Type 0 where
+  pub some : 1 ≤ records b
+  pub most : records b ≤ 512
+  pub links : chain b ≡ whole (chained b)
+  pub kinds : kindsAnswer b (chained b) ≡ Accepted
+  pub section : sectionAnswer (vertices b (chained b)) ≡ Accepted
+
+pub accepted-sound : (b : List ℕ) → storeAnswer b ≡ Accepted → Sound b
+unfolding storeAnswer chained
+accepted-sound b e =
+    let first = both (lengthAnswer (length b)) _ e in
+    let second = both (linksAnswer (chain b)) _ (first .1) in
+    let third = both (kindsAnswer b (inOrder (chain b))) _ (second .1) in
+    let size = length-accepted (length b) (first .0) in
+    record {
+      some = size .0;
+      most = size .1;
+      links = whole-chain (chain b) (second .0);
+      kinds = third .0;
+      section = third .1;
+    }
+
+-- a store's answer is that of its length and links, or else that of its kinds and section
+then-then : (a b c : StoreAnswer) → andThen a (andThen b c) ≡ andThen (andThen a b) c
+then-then Accepted b c = refl
+then-then (Refused n k) b c = refl
+
+module _ (b : List ℕ) where
+  parts :
+      storeAnswer b
+      ≡ andThen (andThen (lengthAnswer (length b)) (linksAnswer (chain b)))
+      (andThen (kindsAnswer b (chained b)) (sectionAnswer (vertices b (chained b))))
+  unfolding storeAnswer
+  parts = then-then (lengthAnswer (length b)) (linksAnswer (chain b)) _
+
+  pub refused-first :
+      {n k : ℕ} → andThen (lengthAnswer (length b)) (linksAnswer (chain b)) ≡ Refused n k → storeAnswer b ≡ Refused n k
+  refused-first e = parts ∙ rw e
+
+  pub decided-second :
+      {ks : List ℕ} {a : StoreAnswer} → andThen (lengthAnswer (length b)) (linksAnswer (chain b)) ≡ Accepted
+      → ks ≡ chained b → andThen (kindsAnswer b ks) (sectionAnswer (vertices b ks)) ≡ a → storeAnswer b ≡ a
+  decided-second e same h = parts ∙ rw (e, ← same) h

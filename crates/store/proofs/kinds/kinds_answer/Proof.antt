@@ -1,0 +1,69 @@
+-- `store::kinds::kinds_answer` meets its contract: what is left to look at gives the answer. Assumes nothing.
+use Prim.Native.Nat.{_-_, _≤_}
+use mathlib.Core.Path.{_≡_, refl, sym, _∙_}
+use lib.ListN.{length, drop}
+use Rattle.store.specs.Kinds.{kindsAnswer}
+use Rattle.store.proofs.Lists.{kinds-more, kinds-found, kinds-end}
+use borrow.Author.Needs.{needs}
+use Rattle.store.proofs.kinds.kinds_answer.Statement.{statement}
+use Rattle.store.proofs.kinds.kinds_answer.Tie as tie
+
+abbrev Inv-loop : tie.InvT-loop
+Inv-loop store order i₀ i = (i ≤ length order) × (kindsAnswer store order ≡ kindsAnswer store (drop i order))
+
+abbrev μ-loop : tie.MeasureT-loop
+μ-loop store order i₀ i = length order - i
+
+loop-holds : tie.Need-loop-holds Inv-loop μ-loop
+loop-holds c = (search needs, refl)
+
+mul-k : tie.Need-mul-k Inv-loop μ-loop
+mul-k c = search needs
+
+shared-slice-read-k : tie.Need-shared-slice-read-k Inv-loop μ-loop
+shared-slice-read-k c = search needs
+
+right-kind-requires : tie.Need-right-kind-requires Inv-loop μ-loop
+right-kind-requires c κs = search needs
+
+add-i : tie.Need-add-i Inv-loop μ-loop
+add-i c = search needs
+
+loop-less : tie.Need-loop-less Inv-loop μ-loop
+loop-less c = search needs
+
+loop-again : tie.Need-loop-again Inv-loop μ-loop
+loop-again c =
+    let c₁ = c .before in
+    let c₃ = c₁ .before .before in
+    let c₄ = c₃ .before in (
+      search needs,
+      c₄ .loop .inv .1 ∙ kinds-more _ _ _ (c₃ .loop-test .taken) (sym (c₁ .right-kind .ensures) ∙ c .if1
+          .taken),
+    )
+
+returns : tie.Need-returns Inv-loop μ-loop
+returns c =
+    let c₁ = c .before in
+    let c₃ = c₁ .before .before in
+    let c₄ = c₃ .before in
+    sym (c₄ .loop .inv .1 ∙ kinds-found _ _ _ (c₃ .loop-test .taken) (sym (c₁ .right-kind .ensures) ∙ c .if1 .left))
+
+returns-2 : tie.Need-returns-2 Inv-loop μ-loop
+returns-2 c = sym (c .before .loop .inv .1 ∙ kinds-end _ _ _ (c .loop-test .left))
+
+pub kinds-answer-spec : {M : Type 1} → statement M
+kinds-answer-spec =
+    tie.close
+    (tie.spec
+    Inv-loop
+    μ-loop
+    loop-holds
+    mul-k
+    shared-slice-read-k
+    right-kind-requires
+    add-i
+    loop-less
+    loop-again
+    returns
+    returns-2)

@@ -1,0 +1,53 @@
+-- The verdict on a store: 12, 13 and 14 are tried first, then the section's 2 to 5. Assumes nothing.
+use Prim.Native.Nat.{ℕ, zero, suc}
+use mathlib.Core.Bool.{cond}
+use mathlib.Core.List.{List, [], _∷_, flatMap}
+use lib.ListN.{length}
+use lib.Ieee.{Float}
+use Rattle.section.specs.Refusals.{queryRefusal}
+use Rattle.store.specs.Records.{rightLength, number}
+use Rattle.store.specs.Chain.{Chain, whole, broken, chain, inOrder}
+use Rattle.store.specs.Kinds.{isVertex, kindsAnswer}
+use Rattle.store.specs.declared.answers.StoreAnswer.{StoreAnswer}
+use Rattle.store.specs.declared.answers.StoreAnswer.the-variants.{Accepted, Refused}
+
+-- a refusal stands; otherwise what is tried next
+abbrev pub andThen : StoreAnswer → StoreAnswer → StoreAnswer
+andThen Accepted rest = rest
+andThen (Refused n k) rest = Refused n k
+
+unfoldable pub lengthAnswer : ℕ → StoreAnswer
+lengthAnswer n = cond (rightLength n) Accepted (Refused 12 0)
+
+-- 13 with the record that holds the bad next
+abbrev pub linksAnswer : Chain → StoreAnswer
+linksAnswer (whole ks) = Accepted
+linksAnswer (broken k) = Refused 13 k
+
+-- kind 1: vertex z, radius; the others are ignored
+abbrev pub vertexNumbers : List ℕ → ℕ → List Float
+vertexNumbers b k = cond (isVertex b k) (number b k 0 ∷ number b k 1 ∷ []) []
+
+-- the section: the vertices among the records ks, in their order, whatever stands between them
+unfoldable pub vertices : List ℕ → List ℕ → List Float
+vertices b ks = flatMap (vertexNumbers b) ks
+
+-- the section's own number, with K = 0; 1 never comes, since each vertex gives two numbers
+abbrev pub numbered : ℕ → StoreAnswer
+numbered zero = Accepted
+numbered (suc n) = Refused (suc n) 0
+
+unfoldable pub sectionAnswer : List Float → StoreAnswer
+sectionAnswer s = numbered (queryRefusal (s ∷ []) s 0)
+
+-- the chained records of a store, in chain order; no other record counts
+unfoldable pub chained : List ℕ → List ℕ
+chained b = inOrder (chain b)
+
+-- 12, 13, 14, then the section's: the whole chain is walked for 13 before any kind is looked at
+unfoldable pub storeAnswer : List ℕ → StoreAnswer
+storeAnswer b =
+    andThen (lengthAnswer (length b))
+    (andThen (linksAnswer (chain b))
+    (andThen (kindsAnswer b (chained b))
+    (sectionAnswer (vertices b (chained b)))))

@@ -1,0 +1,93 @@
+// Reading a store: its refusals in their order, 12, 13, 14, then those of its section.
+ghost use mathlib.Core.Path.{_≡_};
+ghost use Prim.Native.Nat.{_≤_};
+ghost use lib.ListN.{length};
+ghost use Rattle.store.specs.Records.{rightLength};
+ghost use Rattle.store.specs.Chain.{chain};
+ghost use Rattle.store.specs.Kinds.{kindsAnswer};
+ghost use Rattle.store.specs.Store.{andThen, lengthAnswer, linksAnswer, chained, vertices, sectionAnswer, storeAnswer};
+ghost use Rattle.store.specs.Promises.{Fills};
+use super::answers::Filled;
+use super::answers::StoreAnswer;
+use super::chain::follow_chain;
+use super::kinds::kinds_answer;
+use super::vertices::gather;
+use super::vertices::section_refusal;
+
+fn right_length(n: usize) -> bool
+    ensures { λ r. ⌜ r ≡ rightLength n ⌝ }
+{
+    n % 40 == 0 && (1 <= n / 40 && n / 40 <= 512)
+}
+
+// The verdict on a length alone.
+pub fn length_answer(n: usize) -> StoreAnswer
+    ensures { λ r. ⌜ r ≡ lengthAnswer n ⌝ }
+{
+    if right_length(n) {
+        return StoreAnswer::Accepted;
+    }
+    StoreAnswer::Refused(12, 0)
+}
+
+// Fills order with the chained records.
+pub fn read_chain(store: &[u8], order: &mut [u32]) -> Filled
+    requires { ⌜ length (now order) ≡ 512 ⌝ }
+    ensures { λ r. ⌜ (let b = now (store .entry) in
+        Fills (andThen (lengthAnswer (length b)) (linksAnswer (chain b))) (chained b) r (now (order .exit))) ⌝ }
+{
+    let whole = length_answer(store.len());
+    match whole {
+        StoreAnswer::Refused(number, k) => Filled::Refused(number, k),
+        StoreAnswer::Accepted => follow_chain(store, order),
+    }
+}
+
+// Fills space with the section, once the kinds are right.
+pub fn read_section(store: &[u8], order: &[u32], space: &mut [f64]) -> Filled
+    requires { ⌜ (length (now space) ≡ 512) × (length (now order) ≤ 512) ⌝ }
+    ensures { λ r. ⌜ (let b = now (store .entry) in let s = vertices b (now (order .entry)) in
+        Fills (andThen (kindsAnswer b (now (order .entry))) (sectionAnswer s)) s r (now (space .exit))) ⌝ }
+{
+    let kinds = kinds_answer(store, order);
+    match kinds {
+        StoreAnswer::Refused(number, k) => Filled::Refused(number, k),
+        StoreAnswer::Accepted => fill_section(store, order, space),
+    }
+}
+
+fn fill_section(store: &[u8], order: &[u32], space: &mut [f64]) -> Filled
+    requires { ⌜ (length (now space) ≡ 512) × (length (now order) ≤ 512) ⌝ }
+    ensures { λ r. ⌜ (let s = vertices (now (store .entry)) (now (order .entry)) in
+        Fills (sectionAnswer s) s r (now (space .exit))) ⌝ }
+{
+    let n = gather(store, order, space);
+    if n > 256 {
+        return Filled::Refused(3, 0);
+    }
+    let end = n * 2;
+    let number = section_refusal(&space[..end]);
+    if number == 0 {
+        return Filled::Front(end);
+    }
+    Filled::Refused(number, 0)
+}
+
+// Accepted, or refused with its number and the record K.
+pub fn read_store(store: &[u8]) -> StoreAnswer
+    ensures { λ r. ⌜ r ≡ storeAnswer (now (store .entry)) ⌝ }
+{
+    let mut order = [0u32; 512];
+    let mut space = [0.0; 512];
+    let chained = read_chain(store, &mut order);
+    match chained {
+        Filled::Refused(number, k) => StoreAnswer::Refused(number, k),
+        Filled::Front(n) => {
+            let section = read_section(store, &order[..n], &mut space);
+            match section {
+                Filled::Refused(number, k) => StoreAnswer::Refused(number, k),
+                Filled::Front(_) => StoreAnswer::Accepted,
+            }
+        }
+    }
+}
