@@ -3,7 +3,7 @@
 
 use checks::judge::vertices;
 use checks::random::Random;
-use jorghipa::{Point, Rectangle, Sphere};
+use jorghipa::{Cylinder, Point, Rectangle, Sphere};
 use std::hint::black_box;
 use std::time::{Duration, Instant};
 
@@ -125,6 +125,39 @@ fn queries(least: Duration) {
     }
 }
 
+macro_rules! rust_cylinder {
+    ($copy:ident, $points:expr, $bars:expr) => {{
+        use $copy::{Cylinder, Vec3};
+        let solid = $copy::probe::solid($points);
+        let at = |p: Point| Vec3::new(p.x, p.y, p.z);
+        over($bars, move |c| solid.query_cylinder(Cylinder { a: at(c.a), b: at(c.b), radius: c.radius }))
+    }};
+}
+
+/// A bar from the body's place on, along the spindle or across it.
+fn bar(body: &Body, across: bool) -> Cylinder {
+    let a = Point { x: body.x, y: body.y, z: body.z };
+    let b = if across { Point { x: body.x + 40.0, ..a } } else { Point { z: body.z + 40.0, ..a } };
+    Cylinder { a, b, radius: body.radius }
+}
+
+/// A walk measures up to 8,192 boxes a call, so that there are few of them.
+fn cylinders(least: Duration) {
+    let mut random = Random::new(3, 0);
+    let bodies: Vec<Body> = (0..4).map(|_| body(&mut random)).collect();
+    for (name, across) in [("cylinder along", false), ("cylinder across", true)] {
+        let bars: Vec<Cylinder> = bodies.iter().map(|b| bar(b, across)).collect();
+        for count in [4, 16] {
+            let list = section(count);
+            let points = vertices(&list);
+            let port = over(&bars, |&c| jorghipa::cylinder(&list, c));
+            let ways =
+                [rust_cylinder!(revolve_libm, &points, &bars), rust_cylinder!(revolve_exact, &points, &bars), port];
+            print_row(Row { name: name.into(), vertices: count, ways }, least);
+        }
+    }
+}
+
 fn roots(least: Duration) {
     let mut random = Random::new(2, 0);
     let pairs: Vec<(f64, f64)> = (0..1024).map(|_| (random.between(-50.0, 150.0), random.between(0.0, 60.0))).collect();
@@ -165,5 +198,6 @@ fn main() {
     println!("| call | vertices | Rust, libm's hypot | Rust, exact hypot | port | port / Rust with libm |");
     println!("|---|---:|---:|---:|---:|---:|");
     queries(least);
+    cylinders(least);
     roots(least);
 }

@@ -1,0 +1,88 @@
+//! Runs the verified listing program and the reference on the same stores and counts differences.
+//! compare_listings PROGRAM [COUNT [SEED]]
+
+use listing_ref::listing;
+use listing_ref::stores::{Random, S, example, in_order};
+use std::io::{Read, Write};
+use std::process::{Command, Stdio};
+
+/// The program's output on this input, handed over in pieces of this size.
+fn run(program: &str, store: &[u8], piece: usize) -> Vec<u8> {
+    let mut child =
+        Command::new(program).stdin(Stdio::piped()).stdout(Stdio::piped()).spawn().expect("the program runs");
+    let mut input = child.stdin.take().unwrap();
+    for part in store.chunks(piece) {
+        input.write_all(part).unwrap();
+        input.flush().unwrap();
+    }
+    drop(input);
+    let mut text = Vec::new();
+    child.stdout.take().unwrap().read_to_end(&mut text).unwrap();
+    child.wait().unwrap();
+    text
+}
+
+/// 01's example, its lengths, every single-bit flip of the example, and the largest listing.
+fn named() -> Vec<Vec<u8>> {
+    let mut stores = vec![example(), Vec::new()];
+    for length in [39, 40, 41, 20_480, 20_520, 20_481, 100_000] {
+        stores.push(vec![0; length]);
+    }
+    let small = in_order(&S, &[(2, [0.0, 0.0, 30.0, 4.0])]);
+    for store in [example(), small] {
+        for bit in 0..store.len() * 8 {
+            let mut flipped = store.clone();
+            flipped[bit / 8] ^= 1 << (bit % 8);
+            stores.push(flipped);
+        }
+    }
+    let bodies: Vec<_> = (0..508).map(|i| (2 + i % 2, [i as f64 * 0.1, 100.0, 1.0, 300.0])).collect();
+    stores.push(in_order(&S[..3], &bodies));
+    stores.push(in_order(&vec![S[0]; 256], &bodies[..255]));
+    stores.push(in_order(&vec![S[0]; 257], &bodies[..254]));
+    stores.push(in_order(&vec![S[0]; 511], &[]));
+    stores
+}
+
+fn main() {
+    let mut arguments = std::env::args().skip(1);
+    let program = arguments.next().expect("compare_listings PROGRAM [COUNT [SEED]]");
+    let count: usize = arguments.next().map_or(2_000, |x| x.parse().unwrap());
+    let mut random = Random(arguments.next().map_or(1, |x| x.parse().unwrap()));
+    let mut stores = named();
+    for i in 0..count {
+        let store = random.store();
+        stores.push(if i % 2 == 0 { store } else { random.damaged(store) });
+    }
+    let (mut differences, mut longest) = (0, 0);
+    let mut answers = std::collections::BTreeMap::new();
+    for (i, store) in stores.iter().enumerate() {
+        let expected = listing(store);
+        let piece = if i % 16 == 0 { 7 } else { 1 << 16 };
+        let got = run(&program, store, piece);
+        longest = longest.max(expected.len());
+        *answers.entry(kind_of(&expected)).or_insert(0) += 1;
+        if got != expected.as_bytes() {
+            differences += 1;
+            let path = std::env::temp_dir().join(format!("differs-{i}.store"));
+            std::fs::write(&path, store).unwrap();
+            println!("differs: {}\n{expected}---\n{}", path.display(), String::from_utf8_lossy(&got));
+            if differences > 5 {
+                break;
+            }
+        }
+    }
+    println!("{answers:?}");
+    println!("longest listing {longest} bytes");
+    println!("{} stores, {differences} differences", stores.len());
+    std::process::exit(i32::from(differences > 0));
+}
+
+/// `listed`, or the refusal's number.
+fn kind_of(text: &str) -> String {
+    match text.strip_prefix("refused ") {
+        Some(rest) => rest.split(' ').next().unwrap().to_string(),
+        None if text.contains(" refused ") => "listed, with a refused body".to_string(),
+        None => "listed".to_string(),
+    }
+}

@@ -1,0 +1,130 @@
+//! Document 01's store and its listing, written from 01's text. Distances are those of the published Rust with the
+//! exact hypot; refusal numbers are those of the table.
+
+pub mod stores;
+
+use revolve_exact::probe::{self, Hit};
+use revolve_exact::{Sphere, Vec3, aabb_polygon_distance};
+use std::fmt::Write;
+
+pub const RECORD: usize = 40;
+const MOST_RECORDS: usize = 512;
+
+/// A refused store: the number and K.
+type Refusal = (u32, usize);
+
+/// One record of 40 bytes: next, kind, four numbers.
+struct Record {
+    next: usize,
+    kind: u32,
+    numbers: [f64; 4],
+}
+
+fn record(bytes: &[u8]) -> Record {
+    let word = |at: usize| u32::from_le_bytes(bytes[at..at + 4].try_into().unwrap());
+    let number = |i: usize| f64::from_le_bytes(bytes[8 + 8 * i..16 + 8 * i].try_into().unwrap());
+    Record { next: word(0) as usize, kind: word(4), numbers: [number(0), number(1), number(2), number(3)] }
+}
+
+/// What the bytes print: the listing, or the line of a refusal.
+pub fn listing(store: &[u8]) -> String {
+    match accepted(store) {
+        Ok(text) => text,
+        Err((number, k)) => format!("refused {number} at {k}\n"),
+    }
+}
+
+fn accepted(store: &[u8]) -> Result<String, Refusal> {
+    if store.is_empty() || store.len() % RECORD != 0 || store.len() > MOST_RECORDS * RECORD {
+        return Err((12, 0));
+    }
+    let records: Vec<Record> = store.chunks(RECORD).map(record).collect();
+    let chain = chain(&records)?;
+    for &k in &chain {
+        let right = if k == 0 { records[k].kind == 0 } else { matches!(records[k].kind, 1..=3) };
+        if !right {
+            return Err((14, k));
+        }
+    }
+    let section: Vec<f64> = chain
+        .iter()
+        .filter(|&&k| records[k].kind == 1)
+        .flat_map(|&k| [records[k].numbers[0], records[k].numbers[1]])
+        .collect();
+    // a point at the origin adds no number of its own
+    if let Some(number) = table::point(&section, [0.0; 3], &[]) {
+        return Err((number, 0));
+    }
+    let mut text = format!("section {}\n", section.len() / 2);
+    for &k in &chain {
+        line(&mut text, k, &records[k], &section);
+    }
+    Ok(text)
+}
+
+/// The records in chain order, record 0 first; 13 with the record that holds the bad next.
+fn chain(records: &[Record]) -> Result<Vec<usize>, Refusal> {
+    let mut chain = vec![0];
+    loop {
+        let k = *chain.last().unwrap();
+        let next = records[k].next;
+        if next == 0 {
+            return Ok(chain);
+        }
+        if next >= records.len() || chain.contains(&next) {
+            return Err((13, k));
+        }
+        chain.push(next);
+    }
+}
+
+fn line(text: &mut String, k: usize, record: &Record, section: &[f64]) {
+    let [a, b, c, d] = record.numbers;
+    let vertices: Vec<(f64, f64)> = section.chunks(2).map(|v| (v[0], v[1])).collect();
+    let (refused, hit): (Option<u32>, Option<Hit>) = match record.kind {
+        2 => (
+            table::sphere(section, record.numbers, &[]),
+            probe::sphere(&probe::solid(&vertices), Sphere { center: Vec3::new(a, b, c), radius: d }),
+        ),
+        3 => (table::rectangle(section, record.numbers, &[]), aabb_polygon_distance(a, b, c, d, &vertices)),
+        _ => return,
+    };
+    if let Some(number) = refused {
+        writeln!(text, "{k} refused {number}").unwrap();
+        return;
+    }
+    let (distance, (z, radius)) = hit.expect("an accepted body has a distance");
+    writeln!(text, "{k} {} {} {}", bits(distance), bits(z), bits(radius)).unwrap();
+}
+
+/// 16 digits; a zero always as +0.
+fn bits(x: f64) -> String {
+    let x = if x == 0.0 { 0.0 } else { x };
+    format!("{:016x}", x.to_bits())
+}
+
+#[cfg(test)]
+mod tests {
+    use super::*;
+    use crate::stores::{example, store};
+
+    #[test]
+    fn the_example_of_01() {
+        let lines = "section 4\n5 4014000000000000 4034000000000000 0000000000000000\n";
+        assert_eq!(listing(&example()), lines);
+    }
+
+    #[test]
+    fn refusals() {
+        assert_eq!(listing(&[]), "refused 12 at 0\n");
+        assert_eq!(listing(&[0; 39]), "refused 12 at 0\n");
+        assert_eq!(listing(&[0; 40]), "refused 2 at 0\n");
+        assert_eq!(listing(&[0; 41]), "refused 12 at 0\n");
+        assert_eq!(listing(&[0; 20_480]), "refused 2 at 0\n");
+        assert_eq!(listing(&[0; 20_520]), "refused 12 at 0\n");
+        assert_eq!(listing(&store(&[(1, 0, [0.0; 4]), (9, 1, [0.0; 4])])), "refused 13 at 1\n");
+        assert_eq!(listing(&store(&[(1, 0, [0.0; 4]), (1, 7, [0.0; 4])])), "refused 13 at 1\n");
+        assert_eq!(listing(&store(&[(1, 1, [0.0; 4]), (0, 7, [0.0; 4])])), "refused 14 at 0\n");
+        assert_eq!(listing(&store(&[(1, 0, [0.0; 4]), (0, 7, [0.0; 4])])), "refused 14 at 1\n");
+    }
+}
