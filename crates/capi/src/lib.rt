@@ -250,7 +250,8 @@ pub extern "C" fn jorghipa_verdict_sphere(
     clearance: f64,
     collision: &mut u32,
 ) -> u32
-    ensures { λ r. ⌜ Judges (sphereVerdict (now (section .entry)) (record { center = vec x y z; radius = radius }) clearance) r (now (collision .entry)) (now (collision .exit)) ⌝ }
+    ensures { λ r. ⌜ Judges (sphereVerdict (now (section .entry)) (record { center = vec x y z; radius = radius }) clearance)
+        r (now (collision .entry)) (now (collision .exit)) ⌝ }
 {
     let center = Vec3 { x, y, z };
     let verdict = walk::verdict_sphere(section, Sphere { center, radius }, clearance);
@@ -267,7 +268,8 @@ pub extern "C" fn jorghipa_verdict_box(
     clearance: f64,
     collision: &mut u32,
 ) -> u32
-    ensures { λ r. ⌜ Judges (boxVerdict (now (section .entry)) (aabb z0 z1 r0 r1) clearance) r (now (collision .entry)) (now (collision .exit)) ⌝ }
+    ensures { λ r. ⌜ Judges (boxVerdict (now (section .entry)) (aabb z0 z1 r0 r1) clearance)
+        r (now (collision .entry)) (now (collision .exit)) ⌝ }
 {
     let verdict = walk::verdict_box(section, Aabb { z0, z1, r0, r1 }, clearance);
     judge(verdict, collision)
@@ -286,7 +288,8 @@ pub extern "C" fn jorghipa_verdict_cylinder(
     clearance: f64,
     collision: &mut u32,
 ) -> u32
-    ensures { λ r. ⌜ Judges (cylinderVerdict (now (section .entry)) (record { a = vec ax ay az; b = vec bx by bz; radius = radius }) clearance) r (now (collision .entry)) (now (collision .exit)) ⌝ }
+    ensures { λ r. ⌜ Judges (cylinderVerdict (now (section .entry)) (record { a = vec ax ay az; b = vec bx by bz; radius = radius }) clearance)
+        r (now (collision .entry)) (now (collision .exit)) ⌝ }
 {
     let a = Vec3 {
         x: ax,
@@ -309,7 +312,8 @@ pub extern "C" fn jorghipa_verdict_convex(
     clearance: f64,
     collision: &mut u32,
 ) -> u32
-    ensures { λ r. ⌜ Judges (convexVerdict (now (convex .entry)) (now (section .entry)) clearance) r (now (collision .entry)) (now (collision .exit)) ⌝ }
+    ensures { λ r. ⌜ Judges (convexVerdict (now (convex .entry)) (now (section .entry)) clearance)
+        r (now (collision .entry)) (now (collision .exit)) ⌝ }
 {
     let verdict = walk::verdict_convex(section, convex, clearance);
     judge(verdict, collision)
