@@ -8,8 +8,8 @@ use lib.Ieee.{Float, binary64, fits}
 use Rattle.section.specs.Refusals.{queryRefusal}
 use Rattle.walk.specs.Axis.{axis}
 use Rattle.walk.specs.Band.{bandOf}
-use Rattle.walk.specs.Cylinders.{cylinderNumbers, cylinderRefusal}
-use Rattle.walk.specs.Steps.{ownNumber, BandRoom}
+use Rattle.walk.specs.Cylinders.{cylinderNumbers, ownNumber, cylinderRefusal}
+use Rattle.walk.specs.Steps.{BandRoom}
 use Rattle.walk.specs.declared.shapes.Cylinder.{Cylinder}
 use Rattle.walk.proofs.Refusals.{fewer-numbers}
 use Rattle.walk.proofs.Cover.Accepted.{IsF64, Each}

@@ -10,9 +10,8 @@ use lib.Ieee.{Float}
 use Rattle.arith.specs.F64.{_≺_, 𝟘}
 use Rattle.section.specs.Refusals.{refuse, odd, fewer, more, notFinite, overLimit, anyOf, numbersRefusal, queryRefusal}
 use Rattle.section.proofs.Refusals.AnyOf.{any-of-append}
-use Rattle.walk.specs.Cylinders.{neither, answer}
+use Rattle.walk.specs.Cylinders.{neither, ownNumber, answer}
 use Rattle.walk.specs.Verdicts.{verdict}
-use Rattle.walk.specs.Steps.{ownNumber}
 use Rattle.walk.specs.declared.shapes.Axis.{Axis}
 use Rattle.walk.specs.declared.shapes.CylinderHit.{CylinderHit}
 use Rattle.walk.specs.declared.shapes.CylinderAnswer.the-variants.{Refused}

@@ -48,11 +48,12 @@ span lo hi = record { lo = lo; hi = hi }
 abbrev pub toward0 : Float → Float → Float
 toward0 lo hi = cond (𝟘 ≺ lo) lo (cond (hi ≺ 𝟘) hi 𝟘)
 
--- 01's span: the least and the greatest radius of the rectangle x0..x1, yc ± half width
-unfoldable pub spanAt : RadialBand → Float → Span
-spanAt b ρ =
-    let y0 = b .yc ⊖ ρ in
-    let y1 = b .yc ⊕ ρ in
+-- the least and the greatest radius of the rectangle x0..x1, y0..y1
+abbrev pub rectangleSpan : Float → Float → Float → Float → Span
+rectangleSpan x0 x1 y0 y1 =
     let h = hypot binary64 in
-    span (h (toward0 (b .x0) (b .x1)) (toward0 y0 y1))
-    (max (max (max (h (b .x0) y0) (h (b .x0) y1)) (h (b .x1) y0)) (h (b .x1) y1))
+    span (h (toward0 x0 x1) (toward0 y0 y1)) (max (max (max (h x0 y0) (h x0 y1)) (h x1 y0)) (h x1 y1))
+
+-- 01's span: of the rectangle x0..x1, yc ± half width
+unfoldable pub spanAt : RadialBand → Float → Span
+spanAt b ρ = rectangleSpan (b .x0) (b .x1) (b .yc ⊖ ρ) (b .yc ⊕ ρ)

@@ -24,9 +24,12 @@ neither Neither = true
 abbrev pub cylinderNumbers : Cylinder → List Float
 cylinderNumbers c = pointNumbers (c .a) ++ (pointNumbers (c .b) ++ (c .radius ∷ []))
 
+-- numbers 9 and 11 of a cylinder
+abbrev pub ownNumber : Float → Axis → ℕ
+ownNumber radius axis = refuse 9 (radius ≺ 𝟘) (refuse 11 (neither axis) 0)
+
 unfoldable pub cylinderRefusal : List Float → Cylinder → ℕ
-cylinderRefusal s c =
-    queryRefusal (s ∷ []) (s ++ cylinderNumbers c) (refuse 9 (c .radius ≺ 𝟘) (refuse 11 (neither (axis c)) 0))
+cylinderRefusal s c = queryRefusal (s ∷ []) (s ++ cylinderNumbers c) (ownNumber (c .radius) (axis c))
 
 -- by the axis; what is neither axial nor radial is turned down
 unfoldable pub cylinderDistance : List Float → Cylinder → CylinderHit

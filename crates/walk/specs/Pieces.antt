@@ -7,6 +7,7 @@ use Rattle.walk.specs.Band.{halfWidth, spanAt}
 use Rattle.walk.specs.declared.shapes.RadialBand.{RadialBand}
 use Rattle.walk.specs.declared.shapes.Span.{Span}
 use Rattle.walk.specs.declared.shapes.Piece.{Piece}
+use Rattle.walk.specs.declared.shapes.Spans.{Spans}
 
 abbrev pub piece : Float → Float → Piece
 piece z0 z1 = record { z0 = z0; z1 = z1 }
@@ -22,16 +23,28 @@ widest b p = spanAt b (halfWidth b (clamp (b .zc) (p .z0) (p .z1)))
 unfoldable pub narrowest : RadialBand → Piece → Span
 narrowest b p = spanAt b (min (halfWidth b (p .z0)) (halfWidth b (p .z1)))
 
+abbrev pub spansOf : RadialBand → Piece → Spans
+spansOf b p = record { widest = widest b p; narrowest = narrowest b p }
+
 -- the box: its z range is the piece, its radial range joins the two spans
+abbrev pub boxFrom : Piece → Spans → Aabb
+boxFrom p x =
+    record {
+      z0 = p .z0;
+      z1 = p .z1;
+      r0 = min (x .widest .lo) (x .narrowest .lo);
+      r1 = max (x .widest .hi) (x .narrowest .hi);
+    }
+
 unfoldable pub boxOf : RadialBand → Piece → Aabb
-boxOf b p =
-    let w = widest b p in
-    let n = narrowest b p in
-    record { z0 = p .z0; z1 = p .z1; r0 = min (w .lo) (n .lo); r1 = max (w .hi) (n .hi) }
+boxOf b p = boxFrom p (spansOf b p)
 
 -- variation: the larger of how far the lower ends and how far the upper ends of the two spans lie apart, at least 0
-unfoldable pub variation : RadialBand → Piece → Float
-variation b p =
-    let w = widest b p in
-    let n = narrowest b p in
+abbrev pub variationFrom : Spans → Float
+variationFrom x =
+    let w = x .widest in
+    let n = x .narrowest in
     max (max (max (w .lo) (n .lo) ⊖ min (w .lo) (n .lo)) (max (w .hi) (n .hi) ⊖ min (n .hi) (w .hi))) 𝟘
+
+unfoldable pub variation : RadialBand → Piece → Float
+variation b p = variationFrom (spansOf b p)

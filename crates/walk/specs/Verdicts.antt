@@ -12,7 +12,7 @@ use Rattle.section.specs.Refusals.{refuse, queryRefusal, pointNumbers}
 use Rattle.section.specs.declared.shapes.Aabb.{Aabb}
 use Rattle.section.specs.declared.shapes.Sphere.{Sphere}
 use Rattle.walk.specs.Axis.{axis}
-use Rattle.walk.specs.Cylinders.{neither, cylinderNumbers, cylinderDistance}
+use Rattle.walk.specs.Cylinders.{cylinderNumbers, ownNumber, cylinderDistance}
 use Rattle.walk.specs.declared.shapes.Cylinder.{Cylinder}
 use Rattle.walk.specs.declared.shapes.Verdict.{Verdict}
 use Rattle.walk.specs.declared.shapes.Verdict.the-variants.{Clear, Collision, Refused}
@@ -46,8 +46,7 @@ boxVerdict s x clearance =
 unfoldable pub cylinderVerdict : List Float → Cylinder → Float → Verdict
 cylinderVerdict s c clearance =
     verdict
-    (queryRefusal (s ∷ []) (s ++ (cylinderNumbers c ++ (clearance ∷ [])))
-    (refuse 9 (c .radius ≺ 𝟘) (refuse 11 (neither (axis c)) 0)))
+    (queryRefusal (s ∷ []) (s ++ (cylinderNumbers c ++ (clearance ∷ []))) (ownNumber (c .radius) (axis c)))
     (collides (cylinderDistance s c .hit .distance) clearance)
 
 unfoldable pub convexVerdict : List Float → List Float → Float → Verdict

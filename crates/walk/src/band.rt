@@ -1,8 +1,7 @@
 // The box of a cylinder along the spindle, and the band of one across it: half width and span.
 ghost use mathlib.Core.Path.{_≡_};
 ghost use Rattle.arith.specs.Num.{min, clamp};
-ghost use Rattle.walk.specs.Band.{axialBox, bandOf, halfWidth, span, spanAt, toward0};
-ghost use Rattle.walk.specs.Steps.{rectangleSpan};
+ghost use Rattle.walk.specs.Band.{axialBox, bandOf, halfWidth, rectangleSpan, span, spanAt, toward0};
 use super::shapes::Cylinder;
 use super::shapes::RadialBand;
 use super::shapes::Span;
