@@ -8,6 +8,8 @@ pub mod Depth
 pub mod Bounds
 pub mod Bounded
 pub mod BoundedValue
+pub mod RootKey
+pub mod NearestRoot
 pub mod RootBounded
 pub mod Shift
 pub mod Hypot

@@ -1,8 +1,2 @@
--- Laws of rounding and of roots over any format, and what the proofs of the functions share.
-pub mod Numbers
-pub mod Squares
-pub mod Tests
-pub mod Rounding
+-- The laws of rounding and of roots that callers cite, over any format.
 pub mod Laws
-pub mod Root
-pub mod Pattern

@@ -2,7 +2,7 @@
 // nothing that was lent is changed. jorghipa.h declares them and says what the caller owes.
 ghost use mathlib.Core.Path.{_≡_};
 ghost use lib.Ieee.{binary64};
-ghost use Rattle.arith.specs.Roots as roots;
+ghost use Rattle.roots.specs.Roots as roots;
 ghost use Rattle.arith.specs.Vector.{vec};
 ghost use Rattle.section.specs.Answers.{pointAnswer, sphereAnswer, boxAnswer, convexAnswer};
 ghost use Rattle.section.specs.Answers.{sectionAnswer, polygonAnswer, sectionKept, polygonKept};

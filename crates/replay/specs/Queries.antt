@@ -2,7 +2,7 @@
 use Prim.Native.Nat.{ℕ}
 use mathlib.Core.List.{List}
 use lib.Ieee.{Float, binary64}
-use Rattle.arith.specs.Roots as roots
+use Rattle.roots.specs.Roots as roots
 use Rattle.arith.specs.declared.vector.Vec3.{Vec3}
 use Rattle.section.specs.Answers.{pointAnswer, sphereAnswer, boxAnswer, convexAnswer}
 use Rattle.section.specs.Boxes.{aabb}

@@ -5,7 +5,7 @@ use mathlib.Core.List.{List}
 use lib.Ieee.{Float, binary64, neg, unlike}
 use Rattle.arith.specs.F64.{_⊕_, _⊖_, _⊗_, _⊘_, _≺_, _≼_, 𝟘, ∞, e-8, e-9, e-12, e-18}
 use Rattle.arith.specs.Num.{min, max, abs, isFinite}
-use Rattle.arith.specs.Roots.{hypot}
+use Rattle.roots.specs.Roots.{hypot}
 use Rattle.section.specs.Vertices.{vertex, hit, count, vertexAt, endAt, upto, any, nearer}
 use Rattle.section.specs.Segments.{closest}
 use Rattle.section.specs.declared.shapes.Vertex.{Vertex}

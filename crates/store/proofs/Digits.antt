@@ -12,8 +12,8 @@ use lib.Dec.{ltb}
 use lib.Ieee.{Float, binary64, eq, ofBits, toBits}
 use borrow.Author.Tests.{lt-ltb, le-ltb, ltb-false}
 use Rattle.arith.specs.F64.{𝟘}
-use Rattle.arith.proofs.Numbers.{decide}
-use Rattle.arith.proofs.Pattern.Special.{unlike-itself}
+use Rattle.roots.proofs.Numbers.{decide}
+use Rattle.roots.proofs.Pattern.Special.{unlike-itself}
 use Rattle.store.specs.Text.{digit, decimalUpTo, decimal, hex, bits}
 use Rattle.store.specs.Promises.{Written}
 use Rattle.store.proofs.Writing.{room-first, room-next, nothing-written}

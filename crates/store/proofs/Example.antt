@@ -6,7 +6,7 @@ use mathlib.Core.List.{List, [], _∷_, _++_, flatMap}
 use lib.IntN.{pos}
 use lib.Ieee.{Float, binary64, add, sub, mul, div, neg, lt, le, eq, ofInt, ofBits, toBits}
 use Rattle.arith.specs.Num.{isFinite}
-use Rattle.arith.specs.Roots.{hypot}
+use Rattle.roots.specs.Roots.{hypot}
 use Rattle.section.specs.Vertices.{upto, any}
 use Rattle.section.specs.Segments.{closest, closestPlaces, segments}
 use Rattle.section.specs.Points.{surfaceStep, surfaceNear, crossing, oddCrossings, insideAxisEdge, inSection, pointDistance}

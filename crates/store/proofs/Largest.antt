@@ -19,7 +19,7 @@ use Rattle.section.specs.Answers.{answer, sphereAnswer, boxAnswer}
 use Rattle.section.specs.declared.shapes.Aabb.{Aabb}
 use Rattle.section.specs.declared.shapes.Sphere.{Sphere}
 use Rattle.section.specs.declared.shapes.CollisionHit.{CollisionHit}
-use Rattle.arith.proofs.Numbers.{decide}
+use Rattle.roots.proofs.Numbers.{decide}
 use Rattle.store.specs.Records.{kind, number}
 use Rattle.store.specs.Kinds.{isVertex, isSphere, isBox, rightKind, kindsAnswer}
 use Rattle.store.specs.Store.{vertexNumbers, vertices, storeAnswer, chained}

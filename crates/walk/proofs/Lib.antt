@@ -1,8 +1,7 @@
--- Demand 3 (Cover), demand 1 (Demand), both as what a query promises (Promise), 01's readings, and laws for the functions' proofs.
+-- Demand 3 (Cover), demand 1 (Demand), both as what a query promises (Promise), and laws for the functions' proofs.
 pub mod Cover
 pub mod Demand
 pub mod Promise
-pub mod Readings
 pub mod Exact
 pub mod Refusals
 pub mod Given

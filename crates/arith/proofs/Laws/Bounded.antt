@@ -10,11 +10,11 @@ use lib.Ieee.{add, div, emax, Float, Format, low, mul, neg, prec, sub}
 use lib.Pow.{pow-add, pow-lt, pow-mono, pow-pos}
 use Rattle.arith.proofs.Laws.Bounds.{add-within, div-within, mul-within, roundKey-within, sub-within, Within}
 use Rattle.arith.proofs.Laws.Bounds.{within-finiteNumber}
-use Rattle.arith.proofs.Rounding.Key.{finiteNumber, key, mid, number, number-of, plusZero, plusZero-finiteNumber}
-use Rattle.arith.proofs.Rounding.Key.{plusZero-key, prec-pos, unit}
-use Rattle.arith.proofs.Rounding.Product.{mul-number, negativePart, positivePart}
-use Rattle.arith.proofs.Rounding.Quotient.{div-key-neg, div-number, div-number-neg}
-use Rattle.arith.proofs.Rounding.Sum.{add-number, neg-finiteNumber, neg-key, sub-number}
+use Rattle.roots.proofs.Rounding.Key.{finiteNumber, key, mid, number, number-of, plusZero, plusZero-finiteNumber}
+use Rattle.roots.proofs.Rounding.Key.{plusZero-key, prec-pos, unit}
+use Rattle.roots.proofs.Rounding.Product.{mul-number, negativePart, positivePart}
+use Rattle.roots.proofs.Rounding.Quotient.{div-key-neg, div-number, div-number-neg}
+use Rattle.roots.proofs.Rounding.Sum.{add-number, neg-finiteNumber, neg-key, sub-number}
 
 abbrev pub overflow : Format → ℕ
 overflow f = low f + suc (emax f)

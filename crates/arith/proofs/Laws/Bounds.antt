@@ -7,13 +7,13 @@ use native.Mathlib.Omega.{arith}
 use lib.Dec.{T}
 use lib.Ieee.{add, div, Float, Format, mul, prec, sub}
 use lib.Pow.{pow-pos}
-use Rattle.arith.proofs.Rounding.Fraction.{rounded, rounded-le}
-use Rattle.arith.proofs.Rounding.Key.{finite-inside, finiteNumber, key, key-is, magnitude, magnitude-le, mid}
-use Rattle.arith.proofs.Rounding.Key.{negative, number, number-of, prec-pos, side, unit, unit-pos}
-use Rattle.arith.proofs.Rounding.Product.{mul-key, negativePart, positivePart}
-use Rattle.arith.proofs.Rounding.Quotient.{div-key}
-use Rattle.arith.proofs.Rounding.RoundKey.{roundKey}
-use Rattle.arith.proofs.Rounding.Sum.{add-key, sub-key}
+use Rattle.roots.proofs.Rounding.Fraction.{rounded, rounded-le}
+use Rattle.roots.proofs.Rounding.Key.{finite-inside, finiteNumber, key, key-is, magnitude, magnitude-le, mid}
+use Rattle.roots.proofs.Rounding.Key.{negative, number, number-of, prec-pos, side, unit, unit-pos}
+use Rattle.roots.proofs.Rounding.Product.{mul-key, negativePart, positivePart}
+use Rattle.roots.proofs.Rounding.Quotient.{div-key}
+use Rattle.roots.proofs.Rounding.RoundKey.{roundKey}
+use Rattle.roots.proofs.Rounding.Sum.{add-key, sub-key}
 
 -- ---- |x| is at most w ticks
 pub record Within (f : Format) (w : ℕ) (x : Float) : Type 0 where

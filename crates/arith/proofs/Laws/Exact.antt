@@ -11,13 +11,13 @@ use lib.Ieee.Bits.{ofBits-toBits}
 use lib.Ieee.Exact.{HasValue}
 use lib.Ieee.Fits.{down-pos}
 use lib.Pow.{pow-pos}
-use Rattle.arith.proofs.Rounding.Fraction.{rounded, rounded-fix}
-use Rattle.arith.proofs.Rounding.Key.{finiteNumber, key, key-is, magnitude, mid, negative, Representable}
-use Rattle.arith.proofs.Rounding.Key.{number-of}
-use Rattle.arith.proofs.Rounding.Key.{representable-of, side}
-use Rattle.arith.proofs.Rounding.RoundKey.{Difference, roundKey, roundKey-mono, roundKey-side}
-use Rattle.arith.proofs.Rounding.Sum.{add-key, add-number}
-use Rattle.arith.proofs.Rounding.KeyOrder.{key→le}
+use Rattle.roots.proofs.Rounding.Fraction.{rounded, rounded-fix}
+use Rattle.roots.proofs.Rounding.Key.{finiteNumber, key, key-is, magnitude, mid, negative, Representable}
+use Rattle.roots.proofs.Rounding.Key.{number-of}
+use Rattle.roots.proofs.Rounding.Key.{representable-of, side}
+use Rattle.roots.proofs.Rounding.RoundKey.{Difference, roundKey, roundKey-mono, roundKey-side}
+use Rattle.roots.proofs.Rounding.Sum.{add-key, add-number}
+use Rattle.roots.proofs.Rounding.KeyOrder.{key→le}
 
 -- ---- fixed points: (a - b) / c is the signed n = q * 2 ^ j
 pub roundKey-fix : (f : Format) (s : Bool) (q j a b c : ℕ) → 0 < c → q < 2 ^ prec f → Difference s (q * 2 ^ j * c) a b

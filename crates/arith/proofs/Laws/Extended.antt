@@ -9,9 +9,9 @@ use lib.Ieee.{Float, nan, inf, fin, Format, fits, isNan, add, sub, neg, prec}
 use lib.Ieee.Fits.{and-i, and-l, add-fits, neg-fits}
 use lib.Ieee.Scale.{finite}
 use lib.Pow.{pow-pos}
-use Rattle.arith.proofs.Rounding.Key.{key, mid, number, finiteNumber, finite-of}
-use Rattle.arith.proofs.Rounding.RoundKey.{roundKey-mono}
-use Rattle.arith.proofs.Rounding.Sum.{add-key, add-number, sub-key}
+use Rattle.roots.proofs.Rounding.Key.{key, mid, number, finiteNumber, finite-of}
+use Rattle.roots.proofs.Rounding.RoundKey.{roundKey-mono}
+use Rattle.roots.proofs.Rounding.Sum.{add-key, add-number, sub-key}
 use Rattle.arith.proofs.Laws.Exact.{add-ge, roundKey-fix}
 
 module _ (f : Format) where

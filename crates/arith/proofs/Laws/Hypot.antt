@@ -9,14 +9,14 @@ use lib.Ieee.{fin, fits, Float, Format, inf, isNan, le, nan, neg}
 use lib.Ieee.Fits.{and-i, and-l, and-r, inf-fits, nan-fits}
 use lib.Ieee.Scale.{finite}
 use lib.IntN.{ℤ}
-use Rattle.arith.proofs.Root.Rounded.{root-fits, root-ge, root-mono, root-number}
-use Rattle.arith.proofs.Rounding.Fraction.{rounded}
-use Rattle.arith.proofs.Rounding.Key.{finiteNumber, key, key-is, magnitude, mid, negative, number, finite-of}
-use Rattle.arith.proofs.Rounding.Key.{representable-of, side, unit}
-use Rattle.arith.proofs.Rounding.KeyOrder.{key→le, le→key}
-use Rattle.arith.proofs.Squares.{square}
-use Rattle.arith.specs.Roots.{hypot, root, sqrt, ticks}
-use Rattle.arith.proofs.Root.Nearest.{NearestRoot, root-nearest}
+use Rattle.arith.proofs.Laws.RootKey.{root-fits, root-ge, root-mono, root-number}
+use Rattle.roots.proofs.Rounding.Fraction.{rounded}
+use Rattle.roots.proofs.Rounding.Key.{finiteNumber, key, key-is, magnitude, mid, negative, number, finite-of}
+use Rattle.roots.proofs.Rounding.Key.{representable-of, side, unit}
+use Rattle.roots.proofs.Rounding.KeyOrder.{key→le, le→key}
+use Rattle.roots.proofs.Squares.{square}
+use Rattle.roots.specs.Roots.{hypot, root, sqrt, ticks}
+use Rattle.arith.proofs.Laws.NearestRoot.{NearestRoot, root-nearest}
 
 -- IEEE 754's abs: the sign is cleared
 abbrev pub unsigned : Float → Float

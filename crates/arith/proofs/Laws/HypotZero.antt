@@ -13,11 +13,11 @@ use lib.IntN.{ℤ}
 use lib.Pow.{pow-pos}
 use Rattle.arith.proofs.Laws.Exact.{value-unique}
 use Rattle.arith.proofs.Laws.Hypot.{hypot-infinite, hypot-root, unsigned, unsigned-number}
-use Rattle.arith.proofs.Root.Rounds.{root-round}
-use Rattle.arith.proofs.Root.Sticky.{stickyRoot, stickyRoot-ge, stickyRoot-le}
-use Rattle.arith.proofs.Rounding.Key.{finiteNumber, magnitude, mid, number-of, Representable, representable-of}
-use Rattle.arith.proofs.Rounding.Key.{unit, unit-pos}
-use Rattle.arith.specs.Roots.{hypot, root}
+use Rattle.roots.proofs.Root.Rounds.{root-round}
+use Rattle.roots.proofs.Root.Sticky.{stickyRoot, stickyRoot-ge, stickyRoot-le}
+use Rattle.roots.proofs.Rounding.Key.{finiteNumber, magnitude, mid, number-of, Representable, representable-of}
+use Rattle.roots.proofs.Rounding.Key.{unit, unit-pos}
+use Rattle.roots.specs.Roots.{hypot, root}
 
 stickyRoot-square : (t : ℕ) → stickyRoot (t * t) ≡ 4 * t
 stickyRoot-square t =

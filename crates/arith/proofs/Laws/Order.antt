@@ -8,9 +8,9 @@ use native.Mathlib.Omega.{arith}
 use lib.Dec.{leb, leb→le, ltb, ltb→lt, lt→ltb, nleb→lt, T}
 use lib.Ieee.{eq, Float, Format, le, lt, fin, down, up}
 use lib.Ieee.Fits.{eq→eqb}
-use Rattle.arith.proofs.Numbers.{decide}
-use Rattle.arith.proofs.Rounding.Key.{key, number}
-use Rattle.arith.proofs.Rounding.KeyOrder.{eq-key, key→le, key→lt, le-key, le→key, lt-key, lt→key, nlt→key}
+use Rattle.roots.proofs.Numbers.{decide}
+use Rattle.roots.proofs.Rounding.Key.{key, number}
+use Rattle.roots.proofs.Rounding.KeyOrder.{eq-key, key→le, key→lt, le-key, le→key, lt-key, lt→key, nlt→key}
 use Rattle.arith.specs.Num.{clamp}
 use lib.IntN.{ℤ}
 

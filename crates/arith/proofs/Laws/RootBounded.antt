@@ -9,10 +9,10 @@ use lib.Pow.{pow-add, pow-mono}
 use Rattle.arith.proofs.Laws.Bounded.{Bounded, bounded-of-within, fit1, fit2, one-lt, oneAbove, overflow}
 use Rattle.arith.proofs.Laws.HypotKey.{hypot-is, root-not-negative, sqrt-is}
 use Rattle.arith.proofs.Laws.Monotone.{keySize}
-use Rattle.arith.proofs.Root.Rounded.{root-le, root-number}
-use Rattle.arith.proofs.Rounding.Key.{key, mid, unit}
-use Rattle.arith.proofs.Rounding.Product.{positivePart}
-use Rattle.arith.specs.Roots.{hypot, root, sqrt}
+use Rattle.arith.proofs.Laws.RootKey.{root-le, root-number}
+use Rattle.roots.proofs.Rounding.Key.{key, mid, unit}
+use Rattle.roots.proofs.Rounding.Product.{positivePart}
+use Rattle.roots.specs.Roots.{hypot, root, sqrt}
 
 -- a root: N at most (2 ^ k) squared
 pub root-bounded : (f : Format) (k N : ℕ) → k < overflow f → N ≤ 2 ^ k * 2 ^ k → Bounded f k (root f N)

@@ -13,13 +13,13 @@ use lib.Pow.{pow-pos}
 use Rattle.arith.proofs.Laws.Hypot.{inf-key, inf-number, infinite, Kind, kind, le-inf, sqrt-root, usual}
 use Rattle.arith.proofs.Laws.Hypot.{unsigned}
 use Rattle.arith.proofs.Laws.HypotZero.{zero-magnitude, root-of-square}
-use Rattle.arith.proofs.Root.Rounded.{root-fits, root-ge, root-le, root-mono, root-number}
-use Rattle.arith.proofs.Rounding.Key.{finiteNumber, key, key-is, magnitude, mid, mid-pos, number, number-of}
-use Rattle.arith.proofs.Rounding.Key.{plusZero, plusZero-finiteNumber, plusZero-key, representable-of, unit}
-use Rattle.arith.proofs.Rounding.Key.{unit-pos}
-use Rattle.arith.proofs.Rounding.KeyOrder.{key→le, le→key}
-use Rattle.arith.specs.Roots.{root, sqrt, ticks}
-use Rattle.arith.proofs.Root.Nearest.{NearestRoot, root-nearest}
+use Rattle.arith.proofs.Laws.RootKey.{root-fits, root-ge, root-le, root-mono, root-number}
+use Rattle.roots.proofs.Rounding.Key.{finiteNumber, key, key-is, magnitude, mid, mid-pos, number, number-of}
+use Rattle.roots.proofs.Rounding.Key.{plusZero, plusZero-finiteNumber, plusZero-key, representable-of, unit}
+use Rattle.roots.proofs.Rounding.Key.{unit-pos}
+use Rattle.roots.proofs.Rounding.KeyOrder.{key→le, le→key}
+use Rattle.roots.specs.Roots.{root, sqrt, ticks}
+use Rattle.arith.proofs.Laws.NearestRoot.{NearestRoot, root-nearest}
 
 -- ---- the square root of what is not below zero
 root-nought : (f : Format) → key f (root f 0) ≡ mid f

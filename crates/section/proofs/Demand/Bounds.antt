@@ -9,13 +9,13 @@ use lib.Dec.{T, leb, leb→le, le→leb, lit≤, ltb, ltb→lt}
 use lib.Ieee.{Float, fin, binary64, add, eq, fits, isNan, le, lt, neg, ofBits, sub}
 use lib.IntN.{ℤ}
 use Rattle.arith.specs.F64.{_⊕_, _⊖_, _⊗_, _≺_, _≼_, 𝟘, 𝟙, ½, ∞, e-8, e-18, e-24}
-use Rattle.arith.specs.Roots.{hypot}
+use Rattle.roots.specs.Roots.{hypot}
 use Rattle.arith.proofs.Laws.Bounded.{Bounded, bounded-up, mul-bounded, neg-bounded, oneAbove, overflow}
 use Rattle.arith.proofs.Laws.BoundedValue.{add-value, bounded-value, BoundedValue, bounded→value, hypot-value}
 use Rattle.arith.proofs.Laws.BoundedValue.{mul-value, sub-value}
 use Rattle.arith.proofs.Laws.Order.{nle→key}
-use Rattle.arith.proofs.Rounding.Key.{finiteNumber, key, magnitude, mid, number, number-of, unit}
-use Rattle.arith.proofs.Rounding.KeyOrder.{lt→key, nlt→key}
+use Rattle.roots.proofs.Rounding.Key.{finiteNumber, key, magnitude, mid, number, number-of, unit}
+use Rattle.roots.proofs.Rounding.KeyOrder.{lt→key, nlt→key}
 use Rattle.section.specs.Demand.{UpTo}
 use Rattle.section.proofs.Demand.UpTo.{upTo-value, value-upTo}
 

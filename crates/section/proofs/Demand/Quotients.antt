@@ -9,8 +9,8 @@ use lib.Ieee.{Float, binary64, neg, ofBits}
 use Rattle.arith.specs.F64.{_⊘_, _≺_, _≼_, 𝟘, 𝟙, e-18, e-24}
 use Rattle.arith.specs.Num.{abs}
 use Rattle.arith.proofs.Laws.Bounded.{between-bounded, Bounded, div-bounded, div-bounded-neg, overflow}
-use Rattle.arith.proofs.Rounding.Key.{key, magnitude, mid, unit}
-use Rattle.arith.proofs.Rounding.Sum.{neg-key}
+use Rattle.roots.proofs.Rounding.Key.{key, magnitude, mid, unit}
+use Rattle.roots.proofs.Rounding.Sum.{neg-key}
 use Rattle.section.specs.Segments.{clamp01}
 use Rattle.section.proofs.Demand.Bounds.{below-key, below-overflow, e-18-finite, e-24-finite, Finite}
 use Rattle.section.proofs.Demand.Bounds.{finite-number, neg-finite, not-below-key, not-le-key, one-finite}

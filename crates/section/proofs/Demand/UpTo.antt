@@ -15,7 +15,7 @@ use lib.Pow.{pow-add, pow-pos}
 use Rattle.arith.specs.F64.{_≺_, _≼_, limit}
 use Rattle.arith.specs.Num.{abs, isFinite}
 use Rattle.arith.proofs.Laws.BoundedValue.{bounded-value, BoundedValue, value-up}
-use Rattle.arith.proofs.Rounding.Key.{unit, unit-pos}
+use Rattle.roots.proofs.Rounding.Key.{unit, unit-pos}
 use Rattle.section.specs.Demand.{UpTo}
 
 or-l : (a b : Bool) → T a → T (a || b)

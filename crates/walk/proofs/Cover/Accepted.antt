@@ -10,9 +10,9 @@ use lib.Ieee.{Float, nan, inf, fin, binary64, fits, isNan, neg, ofBits}
 use lib.Ieee.Fits.{and-i}
 use Rattle.arith.specs.F64.{_≺_, 𝟘, ½, limit}
 use Rattle.arith.specs.Num.{isFinite}
-use Rattle.arith.proofs.Rounding.Key.{key, mid, magnitude, unit, number-of}
-use Rattle.arith.proofs.Rounding.KeyOrder.{lt→key, key→le, nlt→key}
-use Rattle.arith.proofs.Rounding.Sum.{neg-key}
+use Rattle.roots.proofs.Rounding.Key.{key, mid, magnitude, unit, number-of}
+use Rattle.roots.proofs.Rounding.KeyOrder.{lt→key, key→le, nlt→key}
+use Rattle.roots.proofs.Rounding.Sum.{neg-key}
 use Rattle.arith.proofs.Laws.Bounded.{Bounded, add-bound, mul-bound}
 use Rattle.section.specs.Refusals.{refuse, anyOf, odd, fewer, more, notFinite, overLimit, numbersRefusal, queryRefusal}
 use Rattle.walk.specs.Axis.{axis}

@@ -7,7 +7,7 @@ use native.Mathlib.Nat.{not-le-of-lt}
 use lib.Dec.{T, lit≤}
 use lib.Ieee.{Float, binary64, fits, isNan, le, ofBits}
 use Rattle.arith.specs.F64.{_≺_, _≼_, e-9, e-15}
-use Rattle.arith.proofs.Rounding.KeyOrder.{le→key, lt→key}
+use Rattle.roots.proofs.Rounding.KeyOrder.{le→key, lt→key}
 use Rattle.section.specs.Boxes.{boxDistance}
 use Rattle.walk.specs.Axis.{axis}
 use Rattle.walk.specs.Band.{bandOf}

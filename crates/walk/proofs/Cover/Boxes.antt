@@ -8,8 +8,8 @@ use lib.Dec.{T, lit≤}
 use lib.Ieee.{Float, binary64}
 use Rattle.arith.specs.F64.{_≺_, _≼_}
 use Rattle.arith.specs.Num.{min, clamp}
-use Rattle.arith.proofs.Numbers.{decide}
-use Rattle.arith.proofs.Rounding.KeyOrder.{key→le}
+use Rattle.roots.proofs.Numbers.{decide}
+use Rattle.roots.proofs.Rounding.KeyOrder.{key→le}
 use Rattle.arith.proofs.Laws.Order.{min-key, max-key, clamp-key}
 use Rattle.arith.proofs.Laws.Bounded.{Bounded, bounded-up, sub-bound, cond-bounded}
 use Rattle.walk.specs.Band.{halfWidth, spanAt}

@@ -11,7 +11,7 @@ use lib.ListN.{length}
 use lib.Dec.{T, lit≤, lit<}
 use lib.Ieee.{Float, nan, inf, fin, binary64, fits, isNan, le}
 use Rattle.arith.specs.F64.{_⊕_, _⊖_, _≺_, _≼_}
-use Rattle.arith.proofs.Rounding.KeyOrder.{le→key, key→le, key→lt}
+use Rattle.roots.proofs.Rounding.KeyOrder.{le→key, key→le, key→lt}
 use Rattle.arith.proofs.Laws.Bounded.{between-bounded}
 use Rattle.walk.specs.Pieces.{wholeWidth, boxOf, variation}
 use Rattle.walk.specs.Walk.{Walk, boxHit, start, sampled, waiting, measured, walk, walkAll}

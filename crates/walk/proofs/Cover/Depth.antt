@@ -8,10 +8,10 @@ use lib.Dec.{T, lit≤, lit<}
 use lib.Pow.{pow-pos}
 use lib.Ieee.{Float, binary64, fits, ofBits}
 use Rattle.arith.specs.F64.{_⊕_, _⊖_, _≺_, _≼_, 𝟘, ½, e-9}
-use Rattle.arith.proofs.Rounding.Key.{key, mid, magnitude, unit, number-of}
-use Rattle.arith.proofs.Rounding.KeyOrder.{le→key}
-use Rattle.arith.proofs.Rounding.RoundKey.{roundKey-near}
-use Rattle.arith.proofs.Rounding.Sum.{add-key, sub-key}
+use Rattle.roots.proofs.Rounding.Key.{key, mid, magnitude, unit, number-of}
+use Rattle.roots.proofs.Rounding.KeyOrder.{le→key}
+use Rattle.roots.proofs.Rounding.RoundKey.{roundKey-near}
+use Rattle.roots.proofs.Rounding.Sum.{add-key, sub-key}
 use Rattle.arith.proofs.Laws.Bounded.{bounded-within, between-bounded, add-bound, sub-bound}
 use Rattle.arith.proofs.Laws.Middle.{half, half-is}
 use Rattle.arith.proofs.Laws.Depth.{Level, level-start, level-wide, level-down, Scale, split}

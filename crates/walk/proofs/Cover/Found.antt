@@ -9,7 +9,7 @@ use native.Mathlib.Nat.{le-refl, le-trans, le-of-lt}
 use lib.ListN.{length}
 use lib.Ieee.{Float}
 use Rattle.arith.specs.F64.{_⊖_}
-use Rattle.arith.proofs.Numbers.{decide}
+use Rattle.roots.proofs.Numbers.{decide}
 use Rattle.walk.specs.Band.{mean}
 use Rattle.walk.specs.Pieces.{variation}
 use Rattle.walk.specs.Walk.{Walk, halved, marked, boxHit, waiting, measured, walk}

@@ -9,11 +9,11 @@ use native.Mathlib.Omega.{arith}
 use lib.Dec.{T, lit≤, lit<}
 use lib.Ieee.{Float, binary64}
 use Rattle.arith.specs.F64.{_⊖_, _⊗_, _≼_, 𝟘}
-use Rattle.arith.specs.Roots.{sqrt}
-use Rattle.arith.proofs.Root.Rounded.{root-mono}
-use Rattle.arith.proofs.Rounding.Key.{unit, number-of}
-use Rattle.arith.proofs.Rounding.KeyOrder.{le→key}
-use Rattle.arith.proofs.Rounding.Product.{positivePart}
+use Rattle.roots.specs.Roots.{sqrt}
+use Rattle.arith.proofs.Laws.RootKey.{root-mono}
+use Rattle.roots.proofs.Rounding.Key.{unit, number-of}
+use Rattle.roots.proofs.Rounding.KeyOrder.{le→key}
+use Rattle.roots.proofs.Rounding.Product.{positivePart}
 use Rattle.arith.proofs.Laws.Order.{nle→key}
 use Rattle.arith.proofs.Laws.Monotone.{keySize, square-key-mono, sub-key-mono}
 use Rattle.arith.proofs.Laws.Bounded.{Bounded, sub-bound, mul-bound}

@@ -11,7 +11,7 @@ use lib.Dec.{T}
 use lib.Ieee.{Float, nan, inf, fin, binary64, le}
 use Rattle.arith.specs.F64.{_≼_, ∞}
 use Rattle.arith.specs.Num.{min}
-use Rattle.arith.proofs.Rounding.KeyOrder.{key→le}
+use Rattle.roots.proofs.Rounding.KeyOrder.{key→le}
 use Rattle.arith.proofs.Laws.Order.{min-key}
 use Rattle.section.specs.declared.shapes.CollisionHit.{CollisionHit}
 use Rattle.walk.specs.Pieces.{boxOf}

@@ -6,8 +6,8 @@ use lib.Dec.{T, lit≤}
 use lib.Ieee.{Float, binary64, fits, isNan, ofBits}
 use lib.Ieee.Fits.{and-l, and-i}
 use Rattle.arith.specs.F64.{𝟘, e-12}
-use Rattle.arith.proofs.Rounding.Key.{key, mid, magnitude, unit, number, finiteNumber, number-of}
-use Rattle.arith.proofs.Rounding.Key.{plusZero, plusZero-key}
+use Rattle.roots.proofs.Rounding.Key.{key, mid, magnitude, unit, number, finiteNumber, number-of}
+use Rattle.roots.proofs.Rounding.Key.{plusZero, plusZero-key}
 use Rattle.arith.proofs.Laws.Bounded.{Bounded}
 
 -- the key of an f64, and that of zero

@@ -5,7 +5,7 @@ use lib.Dec.{T}
 use lib.Ieee.{Float, binary64, ofBits}
 use Rattle.arith.specs.F64.{_≼_, 𝟘}
 use Rattle.arith.specs.Num.{min, max}
-use Rattle.arith.proofs.Rounding.Key.{plusZero}
+use Rattle.roots.proofs.Rounding.Key.{plusZero}
 use Rattle.arith.proofs.Laws.Bounded.{Bounded, cond-bounded, plusZero-bounded}
 use Rattle.walk.specs.declared.shapes.RadialBand.{RadialBand}
 

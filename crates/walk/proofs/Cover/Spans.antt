@@ -10,9 +10,9 @@ use lib.Dec.{T}
 use lib.Ieee.{Float, binary64}
 use Rattle.arith.specs.F64.{_⊕_, _⊖_, _≺_, _≼_, 𝟘}
 use Rattle.arith.specs.Num.{max}
-use Rattle.arith.specs.Roots.{hypot}
-use Rattle.arith.proofs.Numbers.{decide}
-use Rattle.arith.proofs.Rounding.KeyOrder.{lt→key, nlt→key}
+use Rattle.roots.specs.Roots.{hypot}
+use Rattle.roots.proofs.Numbers.{decide}
+use Rattle.roots.proofs.Rounding.KeyOrder.{lt→key, nlt→key}
 use Rattle.arith.proofs.Laws.Order.{max-key}
 use Rattle.arith.proofs.Laws.Monotone.{keySize, add-key-mono, sub-key-mono}
 use Rattle.arith.proofs.Laws.Bounded.{Bounded, add-bound, sub-bound, cond-bounded}

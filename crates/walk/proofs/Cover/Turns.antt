@@ -10,9 +10,9 @@ use lib.ListN.{length}
 use lib.Dec.{T}
 use lib.Ieee.{Float, binary64}
 use Rattle.arith.specs.F64.{_⊕_, _⊖_, _≺_, _≼_, e-12}
-use Rattle.arith.proofs.Rounding.Key.{number-of}
-use Rattle.arith.proofs.Rounding.KeyOrder.{key→le, lt→key, nlt→key}
-use Rattle.arith.proofs.Rounding.Sum.{sub-number}
+use Rattle.roots.proofs.Rounding.Key.{number-of}
+use Rattle.roots.proofs.Rounding.KeyOrder.{key→le, lt→key, nlt→key}
+use Rattle.roots.proofs.Rounding.Sum.{sub-number}
 use Rattle.section.specs.Vertices.{hit, nearer}
 use Rattle.section.specs.declared.shapes.CollisionHit.{CollisionHit}
 use Rattle.walk.specs.Pieces.{boxOf, variation}

@@ -10,14 +10,14 @@ use lib.Ieee.{Float, binary64}
 use lib.Pow.{pow-pos}
 use Rattle.arith.specs.F64.{_⊖_, _⊗_, _≺_, _≼_, 𝟘}
 use Rattle.arith.specs.Num.{max, min}
-use Rattle.arith.specs.Roots.{sqrt}
+use Rattle.roots.specs.Roots.{sqrt}
 use Rattle.arith.proofs.Laws.Bounded.{Bounded}
 use Rattle.arith.proofs.Laws.Exact.{roundKey-self}
 use Rattle.arith.proofs.Laws.Monotone.{keySize, square-key}
 use Rattle.arith.proofs.Laws.RootBounded.{sqrt-bounded}
-use Rattle.arith.proofs.Rounding.Key.{key, mid, unit, unit-pos}
-use Rattle.arith.proofs.Rounding.RoundKey.{roundKey-mono, roundKey-side}
-use Rattle.arith.proofs.Rounding.Sum.{sub-key}
+use Rattle.roots.proofs.Rounding.Key.{key, mid, unit, unit-pos}
+use Rattle.roots.proofs.Rounding.RoundKey.{roundKey-mono, roundKey-side}
+use Rattle.roots.proofs.Rounding.Sum.{sub-key}
 use Rattle.section.specs.Demand.{UpTo}
 use Rattle.section.proofs.Demand.Bounds.{Finite, add-finite, add-upTo, finite-raise, finite-upTo, half-finite}
 use Rattle.section.proofs.Demand.Bounds.{hypot-finite, hypot-upTo, mul-finite, mul-upTo, not-le-key, sub-finite}

@@ -10,7 +10,7 @@ use lib.Ieee.{Float, binary64, ofBits}
 use Rattle.arith.specs.F64.{_≺_, 𝟘, ½, e-9}
 use Rattle.arith.proofs.Laws.Bounded.{bounded-within}
 use Rattle.arith.proofs.Laws.Middle.{Between, IsHalf, half, half-is, middle}
-use Rattle.arith.proofs.Rounding.Key.{key, mid}
+use Rattle.roots.proofs.Rounding.Key.{key, mid}
 use Rattle.section.proofs.Demand.Accepted.{refuse-none, section-taken}
 use Rattle.section.proofs.Demand.Bounds.{Finite, add-finite, finite-upTo, half-finite, zero-finite}
 use Rattle.section.proofs.Demand.Lists.{All, all-map, cons, nil}

@@ -8,8 +8,8 @@ use lib.Dec.{T}
 use lib.Ieee.{Float, binary64}
 use Rattle.arith.specs.F64.{_⊕_, _⊖_, _≺_, _≼_, 𝟘}
 use Rattle.arith.specs.Num.{max}
-use Rattle.arith.specs.Roots.{hypot}
-use Rattle.arith.proofs.Rounding.Key.{key, mid}
+use Rattle.roots.specs.Roots.{hypot}
+use Rattle.roots.proofs.Rounding.Key.{key, mid}
 use Rattle.section.specs.Demand.{UpTo}
 use Rattle.section.specs.declared.shapes.Aabb.{Aabb}
 use Rattle.section.proofs.Demand.Bounds.{Finite, add-finite, add-upTo, finite-upTo, hypot-finite}

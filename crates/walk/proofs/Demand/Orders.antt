@@ -13,14 +13,14 @@ use lib.Ieee.Fits.{and-i}
 use lib.Ieee.Scale.{finite}
 use Rattle.arith.specs.F64.{_⊕_, _⊖_, _≺_, _≼_, 𝟘}
 use Rattle.arith.specs.Num.{isFinite, max, min}
-use Rattle.arith.specs.Roots.{hypot}
+use Rattle.roots.specs.Roots.{hypot}
 use Rattle.arith.proofs.Laws.Hypot.{hypot-root}
 use Rattle.arith.proofs.Laws.HypotKey.{root-not-negative}
 use Rattle.arith.proofs.Laws.Order.{max-key, min-key}
 use Rattle.arith.proofs.Laws.Shift.{add-value-ge, less-part, sub-value-le}
-use Rattle.arith.proofs.Root.Rounded.{root-mono}
-use Rattle.arith.proofs.Rounding.Key.{key, magnitude, mid}
-use Rattle.arith.proofs.Rounding.KeyOrder.{key→le}
+use Rattle.arith.proofs.Laws.RootKey.{root-mono}
+use Rattle.roots.proofs.Rounding.Key.{key, magnitude, mid}
+use Rattle.roots.proofs.Rounding.KeyOrder.{key→le}
 use Rattle.section.specs.Demand.{UpTo}
 use Rattle.section.proofs.Demand.Bounds.{Finite, finite-number}
 use Rattle.section.proofs.Demand.Bounds.{zero-finite, zero-key}

@@ -1,6 +1,6 @@
 -- `store::text::bits_of` meets its contract. Assumes nothing.
 use mathlib.Core.Path.{sym}
-use Rattle.arith.proofs.Pattern.Special.{like-itself}
+use Rattle.roots.proofs.Pattern.Special.{like-itself}
 use Rattle.store.proofs.Digits.{bits-zero, bits-nan}
 use Rattle.store.proofs.text.bits_of.Statement.{statement}
 use Rattle.store.proofs.text.bits_of.Tie as tie

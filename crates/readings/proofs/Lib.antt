@@ -1,0 +1,2 @@
+-- Document 01's readings: the table and its theorem.
+pub mod Readings

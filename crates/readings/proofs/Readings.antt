@@ -1,0 +1,153 @@
+-- Document 01's readings of the section S, and its examples of what is turned down (numbers 1 to 11): the definitions give every row of
+-- the table, by computation. Assumes nothing.
+use Prim.Native.Nat.{ℕ, zero, suc}
+use mathlib.Core.Bool.{false}
+use mathlib.Core.Path.{_≡_, refl}
+use mathlib.Core.List.{List, [], _∷_}
+use lib.IntN.{pos, negsuc}
+use lib.Ieee.{Float, nan, fin, binary64, ofInt, neg, add, sub, mul, div, lt, le, ofBits}
+use Rattle.arith.specs.F64.{∞, e-8, e-9}
+use Rattle.arith.specs.Num.{isFinite}
+use Rattle.roots.specs.Roots.{sqrt, hypot}
+use Rattle.arith.specs.Vector.{vec}
+use Rattle.arith.specs.declared.vector.Vec3.{Vec3}
+use Rattle.section.specs.Vertices.{vertex, hit, upto, any, vertexAt}
+use Rattle.section.specs.Segments.{closest, closestPlaces, segments}
+use Rattle.section.specs.Points.{surfaceStep, surfaceNear, crossing, oddCrossings, insideAxisEdge, inSection}
+use Rattle.section.specs.Points.{pointDistance, sphereDistance}
+use Rattle.section.specs.Boxes.{clipSide, clip, edgeBox, wellInside, crossesBox, boxGap, boxPenetration, boxWitness}
+use Rattle.section.specs.Boxes.{boxHolds, result, boxDistance}
+use Rattle.section.specs.Builder.{samePoint, keep, sectionPoints, sectionOf, polygonPoints, polygonOf}
+use Rattle.section.specs.Refusals.{anyOf, numbersRefusal, queryRefusal, pointRefusal, sphereRefusal, boxRefusal}
+use Rattle.section.specs.Refusals.{sectionRefusal, polygonRefusal}
+use Rattle.section.specs.Answers.{pointAnswer, sphereAnswer, boxAnswer, sectionAnswer, polygonAnswer}
+use Rattle.walk.specs.Axis.{direction, axis}
+use Rattle.walk.specs.Band.{axialBox, bandOf, halfWidth, spanAt}
+use Rattle.walk.specs.Pieces.{widest, narrowest, boxOf, variation}
+use Rattle.walk.specs.Walk.{sampleAt, sampled, walk, walkAll, bandDistance}
+use Rattle.walk.specs.Cylinders.{cylinderRefusal, cylinderDistance, cylinderAnswer}
+use Rattle.walk.specs.declared.shapes.Cylinder.{Cylinder}
+use Rattle.walk.specs.declared.shapes.CylinderAnswer.{CylinderAnswer}
+use Rattle.walk.specs.declared.shapes.CylinderAnswer.the-variants.{Hit as CylinderHits, Refused as CylinderRefused}
+use Rattle.section.specs.declared.shapes.Vertex.{Vertex}
+use Rattle.section.specs.declared.shapes.Aabb.{Aabb}
+use Rattle.section.specs.declared.shapes.Sphere.{Sphere}
+use Rattle.section.specs.declared.shapes.Answer.{Answer}
+use Rattle.section.specs.declared.shapes.Answer.the-variants.{Hit, Refused}
+use Rattle.section.specs.declared.shapes.Kept.{Kept}
+use Rattle.section.specs.declared.shapes.Kept.the-variants.{Numbers, Refused as NotKept}
+
+abbrev pub mm : ℕ → Float
+mm n = ofInt binary64 (pos n)
+
+-- 01's section S, built from (0,10), (20,10)
+abbrev pub S : List Float
+S = sectionOf (mm 0 ∷ mm 10 ∷ mm 20 ∷ mm 10 ∷ [])
+
+-- A row: what a builder keeps; what a query of S answers; a distance that every point has; what a builder answers.
+pub data Row : Type 0 where
+  keeps : List Float → List Float → Row
+  point : Vec3 → Answer → Row
+  sphere : Sphere → Answer → Row
+  box : Aabb → Answer → Row
+  cylinder : Cylinder → CylinderAnswer → Row
+  everywhere : List Float → Float → Row
+  section : List Float → List Float → Kept → Row
+  polygon : List Float → List Float → Kept → Row
+
+abbrev pub Holds : Row → Type 0
+Holds (keeps given kept) = sectionOf given ≡ kept
+Holds (point p a) = pointAnswer S p ≡ a
+Holds (sphere b a) = sphereAnswer S b ≡ a
+Holds (box x a) = boxAnswer S x ≡ a
+Holds (cylinder c a) = cylinderAnswer S c ≡ a
+Holds (everywhere given d) = (p : Vertex) → pointDistance (sectionOf given) p ≡ hit d (vertexAt (sectionOf given) 0)
+Holds (section given space a) = sectionAnswer given space ≡ a
+Holds (polygon given space a) = polygonAnswer given space ≡ a
+
+-- every row holds
+infixr 30 _and_
+pub data All : List Row → Type 0 where
+  end : All []
+  _and_ : {row : Row} {rows : List Row} → Holds row → All rows → All (row ∷ rows)
+
+abbrev pub at : ℕ → ℕ → ℕ → Vec3
+at x y z = vec (mm x) (mm y) (mm z)
+
+abbrev pub ball : Vec3 → Float → Sphere
+ball center radius = record { center = center; radius = radius }
+
+abbrev pub rect : Float → Float → Float → Float → Aabb
+rect z0 z1 r0 r1 = record { z0 = z0; z1 = z1; r0 = r0; r1 = r1 }
+
+abbrev pub hits : Float → ℕ → ℕ → Answer
+hits d z r = Hit (hit d (vertex (mm z) (mm r)))
+
+abbrev pub bar : Vec3 → Vec3 → Float → Cylinder
+bar a b radius = record { a = a; b = b; radius = radius }
+
+-- distance and witness; boxes measured and the most pieces that waited, uncut
+abbrev pub walks : Float → Float → Float → ℕ → ℕ → CylinderAnswer
+walks d z r boxes waiting =
+    CylinderHits (record { hit = hit d (vertex z r); boxes = boxes; waiting = waiting; cut = false })
+
+-- 2 ^ -30, and 10 less 2 ^ -30
+abbrev pub thin : Float
+thin = fin false 1 (negsuc 29)
+
+abbrev pub nearly10 : Float
+nearly10 = fin false 10737418239 (negsuc 29)
+
+-- n zeros
+abbrev pub room : ℕ → List Float
+room zero = []
+room (suc n) = mm 0 ∷ room n
+
+abbrev pub readings : List Row
+readings =
+    keeps (mm 0 ∷ mm 10 ∷ mm 20 ∷ mm 10 ∷ []) (mm 0 ∷ mm 10 ∷ mm 20 ∷ mm 10 ∷ mm 20 ∷ mm 0 ∷ mm 0 ∷ mm 0 ∷ [])
+    ∷ point (at 0 0 10) (hits (neg (mm 10)) 10 10)
+    ∷ point (at 3 4 30) (hits (mm 10) 20 5)
+    ∷ point (at 5 0 20) (hits (mm 0) 20 5)
+    ∷ sphere (ball (at 0 0 30) (mm 4)) (hits (mm 6) 20 0)
+    ∷ box (rect (mm 25) (mm 30) (mm 0) (mm 5)) (hits (mm 5) 20 0)
+    ∷ box (rect (mm 18) (mm 30) (mm 0) (mm 5)) (hits (neg (mm 2)) 20 0)
+    ∷ box (rect (mm 20) (mm 25) (mm 0) (mm 5)) (hits (mm 0) 20 5)
+    ∷ box (rect (neg (mm 5)) (mm 25) (mm 5) (mm 15)) (hits (neg e-8) 20 10)
+    ∷ cylinder (bar (at 15 0 0) (at 15 0 30) (mm 2)) (walks (mm 3) (mm 0) (mm 10) 1 0)
+    ∷ cylinder (bar (at 12 0 10) (at 30 0 10) (mm 0)) (walks (mm 2) (mm 10) (mm 10) 1 0)
+    ∷ cylinder (bar (at 12 0 10) (at 30 0 10) thin) (walks (mm 2) nearly10 (mm 10) 1 1)
+    ∷ keeps (mm 0 ∷ mm 0 ∷ mm 20 ∷ mm 0 ∷ []) (mm 0 ∷ mm 0 ∷ mm 20 ∷ mm 0 ∷ mm 0 ∷ mm 0 ∷ [])
+    ∷ everywhere (mm 0 ∷ mm 0 ∷ mm 20 ∷ mm 0 ∷ []) ∞
+    -- numbers 1 to 11
+    ∷ section (mm 0 ∷ mm 10 ∷ mm 20 ∷ []) (room 8) (NotKept 1)
+    ∷ section (mm 0 ∷ mm 10 ∷ []) (room 8) (NotKept 2)
+    ∷ polygon (room 514) (room 514) (NotKept 3)
+    ∷ section (nan ∷ mm 10 ∷ mm 20 ∷ mm 10 ∷ []) (room 8) (NotKept 4)
+    ∷ section (mm 1048577 ∷ mm 10 ∷ mm 20 ∷ mm 10 ∷ []) (room 8) (NotKept 5)
+    ∷ section (mm 0 ∷ neg (mm 1) ∷ mm 20 ∷ mm 10 ∷ []) (room 8) (NotKept 6)
+    ∷ section (mm 0 ∷ mm 10 ∷ mm 20 ∷ mm 10 ∷ []) (room 6) (NotKept 7)
+    ∷ section (mm 0 ∷ mm 10 ∷ mm 0 ∷ mm 0 ∷ []) (room 8) (NotKept 8)
+    ∷ sphere (ball (at 0 0 0) (neg (mm 1))) (Refused 9)
+    ∷ box (rect (mm 5) (mm 4) (mm 0) (mm 5)) (Refused 10)
+    ∷ cylinder (bar (at 0 0 0) (at 1 0 1) (mm 1)) (CylinderRefused 11)
+    -- the limit is taken, and a radius of -1e-9 is taken as 0
+    ∷ section (mm 1048576 ∷ mm 10 ∷ mm 20 ∷ mm 10 ∷ []) (room 8) (Numbers 8)
+    ∷ keeps (mm 0 ∷ neg e-9 ∷ mm 20 ∷ mm 10 ∷ []) (mm 0 ∷ mm 0 ∷ mm 20 ∷ mm 10 ∷ mm 20 ∷ mm 0 ∷ mm 0 ∷ mm 0 ∷ [])
+    ∷ []
+
+-- the definitions give every row
+pub all-readings : All readings
+unfolding add sub mul div neg lt le ofInt ofBits sqrt hypot isFinite
+    upto any closest closestPlaces segments surfaceStep surfaceNear crossing oddCrossings insideAxisEdge inSection
+    pointDistance sphereDistance clipSide clip edgeBox wellInside crossesBox boxGap boxPenetration boxWitness
+    boxHolds result boxDistance samePoint keep sectionPoints sectionOf polygonPoints polygonOf
+    anyOf numbersRefusal queryRefusal pointRefusal sphereRefusal boxRefusal sectionRefusal polygonRefusal
+    pointAnswer sphereAnswer boxAnswer sectionAnswer polygonAnswer
+    direction axis axialBox bandOf halfWidth spanAt widest narrowest boxOf variation sampleAt sampled walk walkAll bandDistance
+    cylinderRefusal cylinderDistance cylinderAnswer
+all-readings =
+    let all-points : Holds (everywhere (mm 0 ∷ mm 0 ∷ mm 20 ∷ mm 0 ∷ []) ∞) = λ p. refl in
+    refl and refl and refl and refl and refl and refl and refl and refl and refl and refl and refl and refl
+    and refl and all-points and refl and refl and refl and refl and refl and refl and refl and refl and refl
+    and refl and refl and refl and refl and end

@@ -1,0 +1,2 @@
+// No code: document 01's readings, and its examples of what is turned down, as one table with one
+// theorem about the definitions of the crates below (proofs/Readings.antt).

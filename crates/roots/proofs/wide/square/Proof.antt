@@ -1,0 +1,82 @@
+-- `sq::square` meets its contract.
+use mathlib.Core.Path.{_≡_, refl, sym, ap, _∙_}
+use Prim.Native.Nat.{ℕ, _+_, _*_, _/_, _%_, _^_, _<_}
+use native.Mathlib.Nat.{le-of-lt, lt-of-le-of-lt, mul-le-mul-left, add-assoc, add-comm, add-left-comm, mul-assoc}
+use native.Mathlib.Nat.{mul-comm, mul-left-comm, mul-add, add-mul, two-mul}
+use native.Mathlib.Omega.{arith}
+use lib.Pow.{shl-lt}
+use borrow.Author.Needs.{needs}
+use Rattle.roots.proofs.wide.square.Statement.{statement}
+use Rattle.roots.proofs.wide.square.Tie as tie
+
+product : {a b : ℕ} (s t : ℕ) → a < 2 ^ s → b < 2 ^ t → a * b < 2 ^ (s + t)
+product {a} s t ha hb = lt-of-le-of-lt (mul-le-mul-left a (le-of-lt hb)) (shl-lt s t ha)
+
+-- the square of a number of two digits
+expand : (P a b : ℕ) → (a * P + b) * (a * P + b) ≡ a * a * (P * P) + (a * b + a * b) * P + b * b
+expand P a b = simp (mul-add, add-mul, mul-assoc, mul-comm, mul-left-comm, add-assoc, add-comm, add-left-comm) refl
+
+twice : (a b : ℕ) → 2 * a * b ≡ a * b + a * b
+twice a b = mul-assoc 2 a b ∙ two-mul (a * b)
+
+-- c is its two digits
+whole : (c : ℕ) → c / 268435456 * 268435456 + c % 268435456 ≡ c
+whole c = omega arith
+
+digits : (c : ℕ) → c * c ≡ c / 268435456 * (c / 268435456) * 72057594037927936 + (2 * (c / 268435456) * (c %
+    268435456)) * 268435456 + c % 268435456 * (c % 268435456)
+digits c =
+    ap (λ (n : ℕ). n * n) (sym (whole c))
+    ∙ expand 268435456 (c / 268435456) (c % 268435456)
+    ∙ ap (λ (n : ℕ). c / 268435456 * (c / 268435456) * 72057594037927936 + n * 268435456 + c %
+    268435456 * (c % 268435456)) (sym (twice (c / 268435456) (c % 268435456)))
+
+hi-lt : (c : ℕ) → c < 2 ^ 55 → c / 268435456 < 2 ^ 27
+hi-lt c h = omega arith
+
+lo-lt : (c : ℕ) → c % 268435456 < 2 ^ 28
+lo-lt c = omega arith
+
+two-hi-lt : (c : ℕ) → c < 2 ^ 55 → 2 * (c / 268435456) < 2 ^ 28
+two-hi-lt c h = omega arith
+
+aa : (c : ℕ) → c < 2 ^ 55 → c / 268435456 * (c / 268435456) < 2 ^ 54
+aa c h = product 27 27 (hi-lt c h) (hi-lt c h)
+
+ab : (c : ℕ) → c < 2 ^ 55 → 2 * (c / 268435456) * (c % 268435456) < 2 ^ 56
+ab c h = product 28 28 (two-hi-lt c h) (lo-lt c)
+
+bb : (c : ℕ) → c % 268435456 * (c % 268435456) < 2 ^ 56
+bb c = product 28 28 (lo-lt c) (lo-lt c)
+
+mul-m : tie.Need-mul-m
+mul-m c = search needs
+
+mul-m-2 : tie.Need-mul-m-2
+mul-m-2 c = let h = ab (c .args .c) (c .pre) in omega arith
+
+mul-l : tie.Need-mul-l
+mul-l c = let h = bb (c .args .c) in omega arith
+
+mul-l-2 : tie.Need-mul-l-2
+mul-l-2 c = search needs
+
+add-l : tie.Need-add-l
+add-l c = let h = bb (c .args .c) in omega arith
+
+mul-h : tie.Need-mul-h
+mul-h c = let h = aa (c .args .c) (c .pre) in omega arith
+
+add-h : tie.Need-add-h
+add-h c = let h = aa (c .args .c) (c .pre) in let g = ab (c .args .c) (c .pre) in omega arith
+
+add-h-2 : tie.Need-add-h-2
+add-h-2 c = let h = aa (c .args .c) (c .pre) in let g = ab (c .args .c) (c .pre) in let b = bb (c .args .c) in omega
+    arith
+
+returns : tie.Need-returns
+returns c = let e = digits (c .args .c) in let g = product 55 55 (c .pre) (c .pre) in
+    (omega arith, omega arith, omega arith)
+
+pub square-spec : {M : Type 1} → statement M
+square-spec = tie.close (tie.spec mul-m mul-m-2 mul-l mul-l-2 add-l mul-h add-h add-h-2 returns)

@@ -1,0 +1,186 @@
+// Hypotenuse of two f64, correctly rounded: a guess, an exact test of squares that decides, and a
+// bisection where it does not. Bits are those of a value with no sign.
+ghost use mathlib.Core.Path.{_≡_};
+ghost use Prim.Native.Nat.{_+_, _-_, _*_, _/_, _^_, _≤_, _<_};
+ghost use lib.Ieee.{binary64};
+ghost use Rattle.roots.specs.Core.{NearestHalf, RoundsUp, RoundsDown, HypotIs, Scaled, Sticky};
+ghost use Rattle.roots.specs.Roots as roots;
+use super::guess::guessed;
+use super::midpoint::bisect;
+use super::midpoint::nearest_of_three;
+use super::wide::square;
+use super::wide::sum_of_squares;
+
+const T52: u64 = 0x10_0000_0000_0000;
+
+const T53: u64 = 0x20_0000_0000_0000;
+
+const T63: u64 = 0x8000_0000_0000_0000;
+
+const INF: u64 = 0x7ff0_0000_0000_0000;
+
+// The exponent of the bits p: they stand for a multiple of 2^exponent smallest values.
+fn exponent(p: u64) -> u64
+    ensures { λ r. ⌜ r ≡ p / 2 ^ 52 - 1 ⌝ }
+{
+    if p < T52 { 0 } else { p / T52 - 1 }
+}
+
+// 0: 4^d divides (2 * m)^2; 1: it does not
+fn sticky(m: u64, d: u64) -> u64
+    requires { ⌜ (m < 2 ^ 53) × (d < 27) ⌝ }
+    ensures { λ r. ⌜ Sticky m d r ⌝ }
+{
+    let q = square(2 * m);
+    let low = q.lo >> (2 * d);
+    if low << (2 * d) == q.lo { 0 } else { 1 }
+}
+
+// The rounded root of mb^2 + ms^2 / 4^d, as a candidate's index; t is 1 where 4^d does not divide
+// (2 * ms)^2.
+fn hypot_significand(mb: u64, ms: u64, d: u64, t: u64) -> u64
+    requires { ⌜ (0 < mb) × (mb < 2 ^ 53) × (ms < 2 ^ 53) × (d < 27) × (ms ≤ mb * 2 ^ d) × (t < 2) ⌝ }
+    ensures { λ r. ⌜ (mb ≤ r) × (r ≤ mb + 2 ^ 52)
+        × RoundsUp ((2 * mb) * (2 * mb) + (2 * ms) * (2 * ms) / 2 ^ (2 * d)) t (r - 1)
+        × RoundsDown ((2 * mb) * (2 * mb) + (2 * ms) * (2 * ms) / 2 ^ (2 * d)) t r ⌝ }
+{
+    let z = sum_of_squares(2 * mb, 2 * ms, d);
+    bisect(z, t, mb - 1, mb + 0x10_0000_0000_0000)
+}
+
+// The rounded half of the root of a^2 + b^2 / 4^d, from any guess g; 0: not decided.
+fn nearest_half(a: u64, b: u64, d: u64, g: u64) -> u64
+    requires { ⌜ (a < 2 ^ 54) × (b < 2 ^ 54) × (d < 27) × (0 < g) × (g < 2 ^ 54) ⌝ }
+    ensures { λ r. ⌜ (0 < r → NearestHalf (a * a + b * b / 2 ^ (2 * d)) r) ⌝ }
+{
+    let z = sum_of_squares(a, b, d);
+    let v = nearest_of_three(z, g);
+    if v < 3 {
+        return g + v - 1;
+    }
+    0
+}
+
+// The bits of the hypotenuse of two finite values, by bisection.
+fn hypot_searched(big: u64, small: u64) -> u64
+    requires { ⌜ (small ≤ big) × (big < 2047 * 2 ^ 52) ⌝ }
+    ensures { λ r. ⌜ HypotIs big small r ⌝ }
+{
+    let eb = exponent(big);
+    let es = exponent(small);
+    let d = eb - es;
+    if d >= 27 {
+        return big;
+    }
+    if big == 0 {
+        return 0;
+    }
+    let mb = big - eb * T52;
+    let ms = small - es * T52;
+    let t = sticky(ms, d);
+    let s = hypot_significand(mb, ms, d, t);
+    let r = eb * T52 + s;
+    if r < INF { r } else { INF }
+}
+
+// 1: a is at least b; 0: it is not
+fn at_least(a: u64, b: u64) -> u64
+    ensures { λ r. ⌜ r < 2 ⌝ }
+{
+    if a >= b { 1 } else { 0 }
+}
+
+// m, or 2 * m where the root lies in big's own binade
+fn scaled(m: u64, top: u64) -> u64
+    requires { ⌜ m < 2 ^ 53 ⌝ }
+    ensures { λ r. ⌜ Scaled m top r × (r < 2 ^ 54) ⌝ }
+{
+    if top == 1 { m } else { 2 * m }
+}
+
+// The same of two normal values, by a guess that is tested, n being about the sum of their squares;
+// 0: not decided.
+fn hypot_tested(n: f64, big: u64, small: u64) -> u64
+    requires { ⌜ (small ≤ big) × (2 ^ 52 ≤ small) × (big < 2000 * 2 ^ 52) ⌝ }
+    ensures { λ r. ⌜ (0 < r → HypotIs big small r) ⌝ }
+{
+    let eb = big / T52;
+    let d = eb - small / T52;
+    if d < 27 {
+        if n > 0.0 {
+            let nb = f64::to_bits(n) % T63;
+            // whether the root is likely to lie in the binade above big's
+            let top = at_least(nb / T52 + 1021, 2 * eb);
+            let aa = scaled(big % T52 + T52, top);
+            let bb = scaled(small % T52 + T52, top);
+            let g = guessed(n, nb);
+            let r = nearest_half(aa, bb, d, g);
+            if r > T52 {
+                if r <= T53 {
+                    return (eb - 1 + top) * T52 + r;
+                }
+            }
+        }
+    }
+    0
+}
+
+fn larger(a: u64, b: u64) -> u64
+    ensures { λ r. ⌜ (a < b → r ≡ b) × (b ≤ a → r ≡ a) ⌝ }
+{
+    if a < b { b } else { a }
+}
+
+fn smaller(a: u64, b: u64) -> u64
+    ensures { λ r. ⌜ (a < b → r ≡ a) × (b ≤ a → r ≡ b) ⌝ }
+{
+    if a < b { a } else { b }
+}
+
+// The bits of the hypotenuse of two finite values, n being about the sum of their squares.
+fn hypot_bits(n: f64, a: u64, b: u64) -> u64
+    requires { ⌜ (a < 2047 * 2 ^ 52) × (b < 2047 * 2 ^ 52) ⌝ }
+    ensures { λ r. ⌜ HypotIs a b r ⌝ }
+{
+    let big = larger(a, b);
+    let small = smaller(a, b);
+    if small >= T52 {
+        if big < 2000 * T52 {
+            let r = hypot_tested(n, big, small);
+            if r > 0 {
+                return r;
+            }
+        }
+    }
+    hypot_searched(big, small)
+}
+
+pub fn hypot(a: f64, b: f64) -> f64
+    ensures { λ r. ⌜ r ≡ roots.hypot binary64 a b ⌝ }
+{
+    if a == a {
+        let ua = f64::to_bits(a) % T63;
+        if b == b {
+            let ub = f64::to_bits(b) % T63;
+            if ua < INF {
+                if ub < INF {
+                    return f64::from_bits(hypot_bits(a * a + b * b, ua, ub));
+                }
+                return f64::from_bits(INF);
+            }
+            return f64::from_bits(INF);
+        }
+        if ua < INF {
+            return 0.0 / 0.0;
+        }
+        return f64::from_bits(INF);
+    }
+    if b == b {
+        let ub = f64::to_bits(b) % T63;
+        if ub < INF {
+            return 0.0 / 0.0;
+        }
+        return f64::from_bits(INF);
+    }
+    0.0 / 0.0
+}
