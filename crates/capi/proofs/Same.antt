@@ -3,10 +3,10 @@ use Prim.Native.Nat.{ℕ}
 use mathlib.Core.List.{List}
 use mathlib.Core.Path.{_≡_, refl, subst, sym}
 use lib.Ieee.{Float}
-use Rattle.section.specs.Builder.{filled}
+use Rattle.profile.specs.Builder.{filled}
 use Rattle.section.specs.declared.shapes.Answer.{Answer}
 use Rattle.section.specs.declared.shapes.Answer.the-variants.{Hit as Found}
-use Rattle.section.specs.declared.shapes.Kept.{Kept}
+use Rattle.profile.specs.declared.shapes.Kept.{Kept}
 use Rattle.walk.specs.Cover.{OfHit, Promised}
 use Rattle.walk.specs.declared.shapes.Cylinder.{Cylinder}
 use Rattle.walk.specs.declared.shapes.CylinderAnswer.{CylinderAnswer}

@@ -5,11 +5,11 @@ use mathlib.Core.Bool.{Bool, true, false}
 use mathlib.Core.Path.{_≡_}
 use mathlib.Core.List.{List}
 use lib.Ieee.{Float}
-use Rattle.section.specs.Builder.{filled}
+use Rattle.profile.specs.Builder.{filled}
 use Rattle.section.specs.declared.shapes.Answer.{Answer}
 use Rattle.section.specs.declared.shapes.Answer.the-variants.{Hit, Refused}
-use Rattle.section.specs.declared.shapes.Kept.{Kept}
-use Rattle.section.specs.declared.shapes.Kept.the-variants.{Numbers, Refused as NotKept}
+use Rattle.profile.specs.declared.shapes.Kept.{Kept}
+use Rattle.profile.specs.declared.shapes.Kept.the-variants.{Numbers, Refused as NotKept}
 use Rattle.walk.specs.declared.shapes.CylinderAnswer.{CylinderAnswer}
 use Rattle.walk.specs.declared.shapes.CylinderAnswer.the-variants.{Hit as Walked, Refused as NotWalked}
 use Rattle.walk.specs.declared.shapes.CylinderHit.{CylinderHit}

@@ -5,7 +5,7 @@ ghost use lib.Ieee.{binary64};
 ghost use Rattle.roots.specs.Roots as roots;
 ghost use Rattle.arith.specs.Vector.{vec};
 ghost use Rattle.section.specs.Answers.{pointAnswer, sphereAnswer, boxAnswer, convexAnswer};
-ghost use Rattle.section.specs.Answers.{sectionAnswer, polygonAnswer, sectionKept, polygonKept};
+ghost use Rattle.profile.specs.Kept.{sectionAnswer, polygonAnswer, sectionKept, polygonKept};
 ghost use Rattle.section.specs.Boxes.{aabb};
 ghost use Rattle.walk.specs.Cylinders.{cylinderAnswer};
 ghost use Rattle.walk.specs.Verdicts.{sphereVerdict, boxVerdict, cylinderVerdict, convexVerdict};

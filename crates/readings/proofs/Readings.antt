@@ -11,16 +11,17 @@ use Rattle.arith.specs.Num.{isFinite}
 use Rattle.roots.specs.Roots.{sqrt, hypot}
 use Rattle.arith.specs.Vector.{vec}
 use Rattle.arith.specs.declared.vector.Vec3.{Vec3}
-use Rattle.section.specs.Vertices.{vertex, hit, upto, any, vertexAt}
+use Rattle.profile.specs.Vertices.{vertex, hit, upto, any, vertexAt}
 use Rattle.section.specs.Segments.{closest, closestPlaces, segments}
 use Rattle.section.specs.Points.{surfaceStep, surfaceNear, crossing, oddCrossings, insideAxisEdge, inSection}
 use Rattle.section.specs.Points.{pointDistance, sphereDistance}
 use Rattle.section.specs.Boxes.{clipSide, clip, edgeBox, wellInside, crossesBox, boxGap, boxPenetration, boxWitness}
 use Rattle.section.specs.Boxes.{boxHolds, result, boxDistance}
-use Rattle.section.specs.Builder.{samePoint, keep, sectionPoints, sectionOf, polygonPoints, polygonOf}
-use Rattle.section.specs.Refusals.{anyOf, numbersRefusal, queryRefusal, pointRefusal, sphereRefusal, boxRefusal}
-use Rattle.section.specs.Refusals.{sectionRefusal, polygonRefusal}
-use Rattle.section.specs.Answers.{pointAnswer, sphereAnswer, boxAnswer, sectionAnswer, polygonAnswer}
+use Rattle.profile.specs.Builder.{samePoint, keep, sectionPoints, sectionOf, polygonPoints, polygonOf}
+use Rattle.profile.specs.Refusals.{anyOf, numbersRefusal, queryRefusal, pointRefusal, sphereRefusal, boxRefusal}
+use Rattle.profile.specs.Refusals.{sectionRefusal, polygonRefusal}
+use Rattle.section.specs.Answers.{pointAnswer, sphereAnswer, boxAnswer}
+use Rattle.profile.specs.Kept.{sectionAnswer, polygonAnswer}
 use Rattle.walk.specs.Axis.{direction, axis}
 use Rattle.walk.specs.Band.{axialBox, bandOf, halfWidth, spanAt}
 use Rattle.walk.specs.Pieces.{widest, narrowest, boxOf, variation}
@@ -29,13 +30,13 @@ use Rattle.walk.specs.Cylinders.{cylinderRefusal, cylinderDistance, cylinderAns
 use Rattle.walk.specs.declared.shapes.Cylinder.{Cylinder}
 use Rattle.walk.specs.declared.shapes.CylinderAnswer.{CylinderAnswer}
 use Rattle.walk.specs.declared.shapes.CylinderAnswer.the-variants.{Hit as CylinderHits, Refused as CylinderRefused}
-use Rattle.section.specs.declared.shapes.Vertex.{Vertex}
-use Rattle.section.specs.declared.shapes.Aabb.{Aabb}
-use Rattle.section.specs.declared.shapes.Sphere.{Sphere}
+use Rattle.profile.specs.declared.shapes.Vertex.{Vertex}
+use Rattle.profile.specs.declared.shapes.Aabb.{Aabb}
+use Rattle.profile.specs.declared.shapes.Sphere.{Sphere}
 use Rattle.section.specs.declared.shapes.Answer.{Answer}
 use Rattle.section.specs.declared.shapes.Answer.the-variants.{Hit, Refused}
-use Rattle.section.specs.declared.shapes.Kept.{Kept}
-use Rattle.section.specs.declared.shapes.Kept.the-variants.{Numbers, Refused as NotKept}
+use Rattle.profile.specs.declared.shapes.Kept.{Kept}
+use Rattle.profile.specs.declared.shapes.Kept.the-variants.{Numbers, Refused as NotKept}
 
 abbrev pub mm : ℕ → Float
 mm n = ofInt binary64 (pos n)

@@ -6,7 +6,7 @@ use Rattle.roots.specs.Roots as roots
 use Rattle.arith.specs.declared.vector.Vec3.{Vec3}
 use Rattle.section.specs.Answers.{pointAnswer, sphereAnswer, boxAnswer, convexAnswer}
 use Rattle.section.specs.Boxes.{aabb}
-use Rattle.section.specs.declared.shapes.Sphere.{Sphere}
+use Rattle.profile.specs.declared.shapes.Sphere.{Sphere}
 use Rattle.replay.specs.Lists.{most, numberAt, listAt, pastList}
 use Rattle.replay.specs.Replies.{ending, queryReply}
 use Rattle.replay.specs.declared.replies.Reply.{Reply}

@@ -7,7 +7,7 @@ use native.Mathlib.Omega.{arith}
 use mathlib.Core.Bool.{Bool, true, false, not, _&&_, _||_, and-comm}
 use mathlib.Core.Logic.{⊎-elim}
 use mathlib.Core.Path.{_≡_, refl, sym, subst, _∙_}
-use Rattle.section.specs.Vertices.{any}
+use Rattle.profile.specs.Vertices.{any}
 
 pub flag-more : (test : ℕ → Bool) (k : ℕ) {flag t : Bool} →
     flag ≡ any test k → t ≡ test k → (flag || t) ≡ any test (k + 1)

@@ -1,7 +1,5 @@
--- Laws of loops and tests that the functions' proofs share, refusals, builders, and demand 1 over the definitions.
-pub mod Fold
+-- Laws of tests that the functions' proofs share, and demand 1 over the definitions.
 pub mod Flags
 pub mod Overlap
-pub mod Refusals
-pub mod Builders
+pub mod Answered
 pub mod Demand

@@ -5,13 +5,13 @@ use mathlib.Core.List.{List, [], _∷_}
 use lib.Ieee.{Float, neg}
 use Rattle.arith.specs.F64.{_⊕_, _⊖_, _⊗_, _⊘_, _≺_, _≼_, 𝟘, 𝟙, ½, ∞, e-8, e-9, e-12, e-15, e-18}
 use Rattle.arith.specs.Num.{abs}
-use Rattle.section.specs.Vertices.{vertex, hit, count, vertexAt, endAt, upto, any, nearestOf}
+use Rattle.profile.specs.Vertices.{vertex, hit, count, vertexAt, endAt, upto, any, nearestOf}
 use Rattle.section.specs.Segments.{minus, along, segments}
 use Rattle.section.specs.Points.{pointDistance}
-use Rattle.section.specs.declared.shapes.Aabb.{Aabb}
+use Rattle.profile.specs.declared.shapes.Aabb.{Aabb}
 use Rattle.section.specs.declared.shapes.Clip.{Clip}
-use Rattle.section.specs.declared.shapes.Vertex.{Vertex}
-use Rattle.section.specs.declared.shapes.CollisionHit.{CollisionHit}
+use Rattle.profile.specs.declared.shapes.Vertex.{Vertex}
+use Rattle.profile.specs.declared.shapes.CollisionHit.{CollisionHit}
 
 abbrev pub aabb : Float → Float → Float → Float → Aabb
 aabb z0 z1 r0 r1 = record { z0 = z0; z1 = z1; r0 = r0; r1 = r1 }

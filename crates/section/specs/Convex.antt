@@ -5,12 +5,12 @@ use mathlib.Core.List.{List}
 use lib.Ieee.{Float, neg}
 use Rattle.arith.specs.F64.{_⊖_, _⊗_, _≺_, _≼_, 𝟘, ∞, e-9, e-12}
 use Rattle.arith.specs.Num.{min, isFinite}
-use Rattle.section.specs.Vertices.{hit, count, vertexAt, endAt, upto, any, nearestOf}
+use Rattle.profile.specs.Vertices.{hit, count, vertexAt, endAt, upto, any, nearestOf}
 use Rattle.section.specs.Segments.{closest, segments}
 use Rattle.section.specs.Points.{pointDistance}
 use Rattle.section.specs.Boxes.{result}
-use Rattle.section.specs.declared.shapes.Vertex.{Vertex}
-use Rattle.section.specs.declared.shapes.CollisionHit.{CollisionHit}
+use Rattle.profile.specs.declared.shapes.Vertex.{Vertex}
+use Rattle.profile.specs.declared.shapes.CollisionHit.{CollisionHit}
 
 -- gap is the first smallest over edge pairs, convex edge outer
 unfoldable pub convexRow : List Float → List Float → ℕ → CollisionHit → CollisionHit

@@ -9,8 +9,8 @@ use lib.IntN.{pos}
 use lib.Ieee.{Float, fin, neg, isNan}
 use Rattle.arith.specs.F64.{_≺_, _≼_, ∞, e-9}
 use Rattle.arith.specs.Num.{abs, isFinite}
-use Rattle.section.specs.Vertices.{hit, count, vertexAt, any}
-use Rattle.section.specs.declared.shapes.CollisionHit.{CollisionHit}
+use Rattle.profile.specs.Vertices.{hit, count, vertexAt, any}
+use Rattle.profile.specs.declared.shapes.CollisionHit.{CollisionHit}
 use Rattle.section.specs.declared.shapes.Answer.{Answer}
 use Rattle.section.specs.declared.shapes.Answer.the-variants.{Hit, Refused}
 

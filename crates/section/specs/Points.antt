@@ -6,11 +6,11 @@ use lib.Ieee.{Float, binary64, neg, unlike}
 use Rattle.arith.specs.F64.{_⊕_, _⊖_, _⊗_, _⊘_, _≺_, _≼_, 𝟘, ∞, e-8, e-9, e-12, e-18}
 use Rattle.arith.specs.Num.{min, max, abs, isFinite}
 use Rattle.roots.specs.Roots.{hypot}
-use Rattle.section.specs.Vertices.{vertex, hit, count, vertexAt, endAt, upto, any, nearer}
+use Rattle.profile.specs.Vertices.{vertex, hit, count, vertexAt, endAt, upto, any, nearer}
 use Rattle.section.specs.Segments.{closest}
-use Rattle.section.specs.declared.shapes.Vertex.{Vertex}
-use Rattle.section.specs.declared.shapes.CollisionHit.{CollisionHit}
-use Rattle.section.specs.declared.shapes.Sphere.{Sphere}
+use Rattle.profile.specs.declared.shapes.Vertex.{Vertex}
+use Rattle.profile.specs.declared.shapes.CollisionHit.{CollisionHit}
+use Rattle.profile.specs.declared.shapes.Sphere.{Sphere}
 use Rattle.arith.specs.declared.vector.Vec3.{Vec3}
 
 -- the edge from a to b counts: an end has |radius| > 1e-9. Any other is an axis edge.

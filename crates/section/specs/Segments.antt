@@ -5,9 +5,9 @@ use lib.Ieee.{Float, binary64, neg}
 use Rattle.arith.specs.F64.{_⊕_, _⊖_, _⊗_, _⊘_, _≺_, _≼_, 𝟘, 𝟙, e-18, e-24}
 use Rattle.arith.specs.Num.{abs, clamp}
 use Rattle.roots.specs.Roots.{hypot}
-use Rattle.section.specs.Vertices.{vertex, hit}
-use Rattle.section.specs.declared.shapes.Vertex.{Vertex}
-use Rattle.section.specs.declared.shapes.CollisionHit.{CollisionHit}
+use Rattle.profile.specs.Vertices.{vertex, hit}
+use Rattle.profile.specs.declared.shapes.Vertex.{Vertex}
+use Rattle.profile.specs.declared.shapes.CollisionHit.{CollisionHit}
 use Rattle.section.specs.declared.shapes.Places.{Places}
 
 abbrev pub minus : Vertex → Vertex → Vertex

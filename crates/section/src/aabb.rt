@@ -4,7 +4,7 @@ ghost use mathlib.Core.Bool.{not, _&&_, cond};
 ghost use lib.Ieee.{neg};
 ghost use Prim.Native.Nat.{_<_, _≤_};
 ghost use Rattle.arith.specs.F64.{_≺_, ∞, e-9};
-ghost use Rattle.section.specs.Vertices.{hit, count, vertexAt, endAt, any, nearer, nearestOf};
+ghost use Rattle.profile.specs.Vertices.{hit, count, vertexAt, endAt, any, nearer, nearestOf};
 ghost use Rattle.section.specs.Segments.{segments};
 ghost use Rattle.section.specs.Points.{pointDistance};
 ghost use Rattle.section.specs.Boxes.{corners, edgeBox, wellInside, middle, crossesBox};
@@ -13,14 +13,14 @@ use super::clip::clip_segment;
 use super::points::signed_distance_2d;
 use super::segment::lerp;
 use super::segment::seg_seg_point_on_first;
-use super::shapes::Aabb;
-use super::shapes::CollisionHit;
-use super::shapes::Vertex;
+use profile::Aabb;
+use profile::CollisionHit;
+use profile::Vertex;
 use super::thresholds::BOUNDARY;
 use super::thresholds::INTERIOR;
-use super::vertices::end_at;
-use super::vertices::nearer_of;
-use super::vertices::vertex_at;
+use profile::end_at;
+use profile::nearer_of;
+use profile::vertex_at;
 
 // The side of the box from c to d may be nearer.
 fn nearer_side(a: Vertex, b: Vertex, c: Vertex, d: Vertex, best: CollisionHit) -> CollisionHit

@@ -3,9 +3,9 @@ ghost use mathlib.Core.Path.{_≡_};
 ghost use mathlib.Core.Bool.{cond};
 ghost use Rattle.arith.specs.F64.{_≺_};
 ghost use Rattle.section.specs.Boxes.{part, outside, clipSide, clip};
-use super::shapes::Aabb;
+use profile::Aabb;
 use super::shapes::Clip;
-use super::shapes::Vertex;
+use profile::Vertex;
 
 fn nothing() -> Clip
     ensures { λ r. ⌜ r ≡ outside ⌝ }

@@ -6,7 +6,7 @@ ghost use lib.Ieee.{neg};
 ghost use Prim.Native.Nat.{_<_, _≤_};
 ghost use Rattle.arith.specs.F64.{_≺_, 𝟘, e-9};
 ghost use Rattle.arith.specs.Num as num;
-ghost use Rattle.section.specs.Vertices.{hit, count, vertexAt, endAt, nearer, nearestOf};
+ghost use Rattle.profile.specs.Vertices.{hit, count, vertexAt, endAt, nearer, nearestOf};
 ghost use Rattle.section.specs.Segments.{closest, segments};
 ghost use Rattle.section.specs.Points.{pointDistance};
 ghost use Rattle.section.specs.Convex.{convexRow, convexGap, orientation, oneSided, convexNear, convexPoint};
@@ -15,13 +15,13 @@ use super::aabb::deeper_at;
 use super::aabb::result_of;
 use super::segment::point_segment;
 use super::segment::seg_seg_point_on_first;
-use super::shapes::CollisionHit;
-use super::shapes::Vertex;
+use profile::CollisionHit;
+use profile::Vertex;
 use super::thresholds::BOUNDARY;
 use super::thresholds::INTERIOR;
-use super::vertices::end_at;
-use super::vertices::nearer_of;
-use super::vertices::vertex_at;
+use profile::end_at;
+use profile::nearer_of;
+use profile::vertex_at;
 
 // Edge j of the section may be nearer to the edge from a to b.
 fn nearer_edge(s: &[f64], j: usize, a: Vertex, b: Vertex, best: CollisionHit) -> CollisionHit

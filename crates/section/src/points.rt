@@ -3,19 +3,19 @@ ghost use mathlib.Core.Path.{_≡_};
 ghost use mathlib.Core.Bool.{cond};
 ghost use Prim.Native.Nat.{_<_, _≤_};
 ghost use lib.Ieee.{unlike};
-ghost use Rattle.section.specs.Vertices.{count, vertexAt, endAt, any, nearer};
+ghost use Rattle.profile.specs.Vertices.{count, vertexAt, endAt, any, nearer};
 ghost use Rattle.section.specs.Segments.{closest};
 ghost use Rattle.section.specs.Points as points;
 ghost use Rattle.section.specs.Points.{surface, surfaceStep, surfaceNear, crossing, oddCrossings};
 ghost use Rattle.section.specs.Points.{insideAxisEdge, inSection, pointDistance, sphereDistance};
 use super::segment::point_segment;
-use super::shapes::CollisionHit;
-use super::shapes::Sphere;
-use super::shapes::Vertex;
+use profile::CollisionHit;
+use profile::Sphere;
+use profile::Vertex;
 use super::thresholds::BOUNDARY;
-use super::vertices::end_at;
-use super::vertices::nearer_of;
-use super::vertices::vertex_at;
+use profile::end_at;
+use profile::nearer_of;
+use profile::vertex_at;
 use arith::Vec3;
 
 // An edge with both ends on the axis is no surface.

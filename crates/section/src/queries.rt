@@ -9,13 +9,13 @@ use super::convex::convex_distance;
 use super::points::meridian;
 use super::points::signed_distance_2d;
 use super::points::sphere_distance;
-use super::refusal::box_refusal;
-use super::refusal::convex_refusal;
-use super::refusal::point_refusal;
-use super::refusal::sphere_refusal;
-use super::shapes::Aabb;
+use profile::box_refusal;
+use profile::convex_refusal;
+use profile::point_refusal;
+use profile::sphere_refusal;
+use profile::Aabb;
 use super::shapes::Answer;
-use super::shapes::Sphere;
+use profile::Sphere;
 use arith::Vec3;
 
 pub fn signed_distance(section: &[f64], point: Vec3) -> Answer

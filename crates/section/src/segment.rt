@@ -4,12 +4,12 @@ ghost use mathlib.Core.Bool.{cond};
 ghost use lib.Ieee.{neg};
 ghost use Rattle.arith.specs.F64.{_⊕_, _⊗_, _⊘_, _≺_, 𝟘, e-18};
 ghost use Rattle.arith.specs.Num as num;
-ghost use Rattle.section.specs.Vertices.{vertex};
+ghost use Rattle.profile.specs.Vertices.{vertex};
 ghost use Rattle.section.specs.Segments.{dot, along, apart, clamp01, closest};
 ghost use Rattle.section.specs.Segments.{places, closestPlaces, segments};
-use super::shapes::CollisionHit;
+use profile::CollisionHit;
 use super::shapes::Places;
-use super::shapes::Vertex;
+use profile::Vertex;
 
 fn dot2(a: Vertex, b: Vertex) -> f64
     ensures { λ r. ⌜ r ≡ dot a b ⌝ }

@@ -7,12 +7,12 @@ use lib.IntN.{pos}
 use lib.Ieee.{Float, binary64, add, sub, mul, div, neg, lt, le, eq, ofInt, ofBits, toBits}
 use Rattle.arith.specs.Num.{isFinite}
 use Rattle.roots.specs.Roots.{hypot}
-use Rattle.section.specs.Vertices.{upto, any}
+use Rattle.profile.specs.Vertices.{upto, any}
 use Rattle.section.specs.Segments.{closest, closestPlaces, segments}
 use Rattle.section.specs.Points.{surfaceStep, surfaceNear, crossing, oddCrossings, insideAxisEdge, inSection, pointDistance}
 use Rattle.section.specs.Boxes.{clipSide, clip, edgeBox, wellInside, crossesBox, boxGap, boxPenetration, boxWitness, boxHolds}
 use Rattle.section.specs.Boxes.{result, boxDistance}
-use Rattle.section.specs.Refusals.{anyOf, numbersRefusal, queryRefusal, boxRefusal}
+use Rattle.profile.specs.Refusals.{anyOf, numbersRefusal, queryRefusal, boxRefusal}
 use Rattle.section.specs.Answers.{boxAnswer}
 use Rattle.store.specs.Bytes.{littleEndian}
 use Rattle.store.specs.Records.{rightLength, next, kind, number}

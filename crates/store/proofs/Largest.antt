@@ -12,13 +12,13 @@ use lib.Dec.{eqb}
 use lib.Ieee.{Float}
 use borrow.Author.Tests.{eqb-true}
 use Rattle.arith.specs.F64.{_≺_, 𝟘}
-use Rattle.section.specs.Vertices.{count}
-use Rattle.section.specs.Refusals.{anyOf, odd, fewer, more, notFinite, overLimit, numbersRefusal, queryRefusal}
-use Rattle.section.specs.Refusals.{sphereRefusal, boxRefusal}
+use Rattle.profile.specs.Vertices.{count}
+use Rattle.profile.specs.Refusals.{anyOf, odd, fewer, more, notFinite, overLimit, numbersRefusal, queryRefusal}
+use Rattle.profile.specs.Refusals.{sphereRefusal, boxRefusal}
 use Rattle.section.specs.Answers.{answer, sphereAnswer, boxAnswer}
-use Rattle.section.specs.declared.shapes.Aabb.{Aabb}
-use Rattle.section.specs.declared.shapes.Sphere.{Sphere}
-use Rattle.section.specs.declared.shapes.CollisionHit.{CollisionHit}
+use Rattle.profile.specs.declared.shapes.Aabb.{Aabb}
+use Rattle.profile.specs.declared.shapes.Sphere.{Sphere}
+use Rattle.profile.specs.declared.shapes.CollisionHit.{CollisionHit}
 use Rattle.roots.proofs.Numbers.{decide}
 use Rattle.store.specs.Records.{kind, number}
 use Rattle.store.specs.Kinds.{isVertex, isSphere, isBox, rightKind, kindsAnswer}

@@ -6,7 +6,7 @@ use mathlib.Core.List.{List, [], _∷_, _++_, append-assoc, flatMap}
 use mathlib.Core.Path.{_≡_, refl, sym, ap, subst, _∙_}
 use lib.ListN.{length, take, drop, getD, length-append, take-append-drop}
 use lib.Ieee.{Float}
-use Rattle.section.specs.declared.shapes.CollisionHit.{CollisionHit}
+use Rattle.profile.specs.declared.shapes.CollisionHit.{CollisionHit}
 use Rattle.section.specs.declared.shapes.Answer.{Answer}
 use Rattle.section.specs.declared.shapes.Answer.the-variants.{Hit, Refused}
 use Rattle.store.specs.Text.{text, decimal, bits}

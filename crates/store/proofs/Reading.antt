@@ -8,8 +8,8 @@ use lib.ListN.{length}
 use lib.Dec.{eqb, leb}
 use lib.Ieee.{Float}
 use borrow.Author.Tests.{ne-eqb, lt-ltb, le-ltb, ltb-false, leb-true}
-use Rattle.section.specs.Vertices.{count}
-use Rattle.section.specs.Refusals.{anyOf, odd, fewer, more, numbersRefusal, queryRefusal}
+use Rattle.profile.specs.Vertices.{count}
+use Rattle.profile.specs.Refusals.{anyOf, odd, fewer, more, numbersRefusal, queryRefusal}
 use Rattle.store.specs.Records.{records, rightLength}
 use Rattle.store.specs.Chain.{Chain, whole, broken, chain, inOrder}
 use Rattle.store.specs.Kinds.{kindsAnswer}

@@ -5,11 +5,11 @@ use mathlib.Core.Bool.{_||_, cond}
 use mathlib.Core.List.{List, [], _++_, flatMap}
 use lib.ListN.{length, drop}
 use lib.Ieee.{Float}
-use Rattle.section.specs.Vertices.{count}
+use Rattle.profile.specs.Vertices.{count}
 use Rattle.section.specs.Answers.{sphereAnswer, boxAnswer}
-use Rattle.section.specs.declared.shapes.Aabb.{Aabb}
-use Rattle.section.specs.declared.shapes.Sphere.{Sphere}
-use Rattle.section.specs.declared.shapes.CollisionHit.{CollisionHit}
+use Rattle.profile.specs.declared.shapes.Aabb.{Aabb}
+use Rattle.profile.specs.declared.shapes.Sphere.{Sphere}
+use Rattle.profile.specs.declared.shapes.CollisionHit.{CollisionHit}
 use Rattle.section.specs.declared.shapes.Answer.{Answer}
 use Rattle.section.specs.declared.shapes.Answer.the-variants.{Hit, Refused}
 use Rattle.store.specs.Records.{number}

@@ -4,7 +4,7 @@ use mathlib.Core.Bool.{cond}
 use mathlib.Core.List.{List, [], _∷_, flatMap}
 use lib.ListN.{length}
 use lib.Ieee.{Float}
-use Rattle.section.specs.Refusals.{queryRefusal}
+use Rattle.profile.specs.Refusals.{queryRefusal}
 use Rattle.store.specs.Records.{rightLength, number}
 use Rattle.store.specs.Chain.{Chain, whole, broken, chain, inOrder}
 use Rattle.store.specs.Kinds.{isVertex, kindsAnswer}

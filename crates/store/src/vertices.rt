@@ -6,7 +6,7 @@ ghost use Prim.Native.Nat.{_+_, _*_, _/_, _<_, _≤_, _^_};
 ghost use lib.ListN.{length, take};
 ghost use lib.Seq.{sets};
 ghost use lib.Dec.{ltb};
-ghost use Rattle.section.specs.Refusals.{queryRefusal};
+ghost use Rattle.profile.specs.Refusals.{queryRefusal};
 ghost use Rattle.store.specs.Store as store·specs;
 ghost use Rattle.store.specs.Store.{vertexNumbers};
 use super::bytes::kind_of;

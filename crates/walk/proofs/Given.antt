@@ -5,7 +5,7 @@ use mathlib.Core.List.{List, [], _∷_, _++_}
 use mathlib.Core.Path.{_≡_, sym, subst}
 use lib.Dec.{T}
 use lib.Ieee.{Float, binary64, fits}
-use Rattle.section.specs.Refusals.{queryRefusal}
+use Rattle.profile.specs.Refusals.{queryRefusal}
 use Rattle.walk.specs.Axis.{axis}
 use Rattle.walk.specs.Band.{bandOf}
 use Rattle.walk.specs.Cylinders.{cylinderNumbers, ownNumber, cylinderRefusal}

@@ -11,8 +11,8 @@ use lib.ListN.{length, getD}
 use lib.Ieee.{Float, nan}
 use Rattle.arith.specs.F64.{∞}
 use Rattle.arith.specs.Num.{min}
-use Rattle.section.specs.Vertices.{hit}
-use Rattle.section.specs.declared.shapes.CollisionHit.{CollisionHit}
+use Rattle.profile.specs.Vertices.{hit}
+use Rattle.profile.specs.declared.shapes.CollisionHit.{CollisionHit}
 use Rattle.walk.specs.Pieces.{piece, wholeWidth}
 use Rattle.walk.specs.Walk.{Walk, better, halved, halves, sampled, waiting, measured}
 use Rattle.walk.specs.Walk.{walk, walkAll, walked, pieces}

@@ -5,7 +5,7 @@ use mathlib.Core.Path.{_≡_, refl, subst, sym}
 use lib.Dec.{lit≤}
 use lib.Ieee.{Float}
 use Rattle.arith.specs.F64.{_≼_, e-9, e-15}
-use Rattle.section.specs.declared.shapes.CollisionHit.{CollisionHit}
+use Rattle.profile.specs.declared.shapes.CollisionHit.{CollisionHit}
 use Rattle.section.specs.Boxes.{boxDistance}
 use Rattle.section.proofs.Demand.Steps.{pick}
 use Rattle.walk.specs.Axis.{axis}

@@ -8,8 +8,8 @@ use mathlib.Core.Logic.{_⊎_, inl, inr}
 use mathlib.Core.Path.{_≡_, refl, sym, _∙_}
 use lib.Ieee.{Float}
 use Rattle.arith.specs.F64.{_≺_, 𝟘}
-use Rattle.section.specs.Refusals.{refuse, odd, fewer, more, notFinite, overLimit, anyOf, numbersRefusal, queryRefusal}
-use Rattle.section.proofs.Refusals.AnyOf.{any-of-append}
+use Rattle.profile.specs.Refusals.{refuse, odd, fewer, more, notFinite, overLimit, anyOf, numbersRefusal, queryRefusal}
+use Rattle.profile.proofs.Refusals.AnyOf.{any-of-append}
 use Rattle.walk.specs.Cylinders.{neither, ownNumber, answer}
 use Rattle.walk.specs.Verdicts.{verdict}
 use Rattle.walk.specs.declared.shapes.Axis.{Axis}

@@ -4,7 +4,7 @@ use lib.Ieee.{Float, binary64}
 use Rattle.arith.specs.F64.{_⊕_, _⊖_, _⊗_, _≺_, _≼_, 𝟘, ½}
 use Rattle.arith.specs.Num.{min, max}
 use Rattle.roots.specs.Roots.{sqrt, hypot}
-use Rattle.section.specs.declared.shapes.Aabb.{Aabb}
+use Rattle.profile.specs.declared.shapes.Aabb.{Aabb}
 use Rattle.walk.specs.declared.shapes.Cylinder.{Cylinder}
 use Rattle.walk.specs.declared.shapes.RadialBand.{RadialBand}
 use Rattle.walk.specs.declared.shapes.Span.{Span}

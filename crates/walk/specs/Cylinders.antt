@@ -5,7 +5,7 @@ use mathlib.Core.List.{List, [], _∷_, _++_}
 use lib.Ieee.{Float}
 use Rattle.arith.specs.F64.{_≺_, 𝟘}
 use Rattle.section.specs.Boxes.{boxDistance}
-use Rattle.section.specs.Refusals.{refuse, queryRefusal, pointNumbers}
+use Rattle.profile.specs.Refusals.{refuse, queryRefusal, pointNumbers}
 use Rattle.walk.specs.Axis.{axis}
 use Rattle.walk.specs.Band.{axialBox, bandOf}
 use Rattle.walk.specs.Walk.{oneBox, bandDistance}

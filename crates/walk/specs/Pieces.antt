@@ -2,7 +2,7 @@
 use lib.Ieee.{Float}
 use Rattle.arith.specs.F64.{_⊕_, _⊖_, 𝟘}
 use Rattle.arith.specs.Num.{min, max, clamp}
-use Rattle.section.specs.declared.shapes.Aabb.{Aabb}
+use Rattle.profile.specs.declared.shapes.Aabb.{Aabb}
 use Rattle.walk.specs.Band.{halfWidth, spanAt}
 use Rattle.walk.specs.declared.shapes.RadialBand.{RadialBand}
 use Rattle.walk.specs.declared.shapes.Span.{Span}

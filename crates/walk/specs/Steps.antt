@@ -3,9 +3,9 @@ use Prim.Native.Nat.{ℕ, _≤_}
 use mathlib.Core.List.{List}
 use lib.Ieee.{Float}
 use Rattle.arith.specs.F64.{e-9}
-use Rattle.section.specs.Vertices.{nearestOf}
+use Rattle.profile.specs.Vertices.{nearestOf}
 use Rattle.section.specs.Points.{pointDistance}
-use Rattle.section.specs.declared.shapes.CollisionHit.{CollisionHit}
+use Rattle.profile.specs.declared.shapes.CollisionHit.{CollisionHit}
 use Rattle.walk.specs.Pieces.{variation}
 use Rattle.walk.specs.Walk.{sampleAt, boxHit, walkAll}
 use Rattle.walk.specs.declared.shapes.RadialBand.{RadialBand}

@@ -8,9 +8,9 @@ use Rattle.arith.specs.F64.{_⊕_, _≺_, 𝟘, e-9}
 use Rattle.section.specs.Points.{sphereDistance}
 use Rattle.section.specs.Boxes.{boxDistance}
 use Rattle.section.specs.Convex.{convexDistance}
-use Rattle.section.specs.Refusals.{refuse, queryRefusal, pointNumbers}
-use Rattle.section.specs.declared.shapes.Aabb.{Aabb}
-use Rattle.section.specs.declared.shapes.Sphere.{Sphere}
+use Rattle.profile.specs.Refusals.{refuse, queryRefusal, pointNumbers}
+use Rattle.profile.specs.declared.shapes.Aabb.{Aabb}
+use Rattle.profile.specs.declared.shapes.Sphere.{Sphere}
 use Rattle.walk.specs.Axis.{axis}
 use Rattle.walk.specs.Cylinders.{cylinderNumbers, ownNumber, cylinderDistance}
 use Rattle.walk.specs.declared.shapes.Cylinder.{Cylinder}

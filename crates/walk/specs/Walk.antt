@@ -8,12 +8,12 @@ use lib.IntN.{pos}
 use lib.Ieee.{Float, nan, binary64, ofInt}
 use Rattle.arith.specs.F64.{_⊕_, _⊖_, _⊗_, _⊘_, _≺_, _≼_, 𝟘, ∞, e-9, e-12, e-15}
 use Rattle.arith.specs.Num.{min}
-use Rattle.section.specs.Vertices.{vertex, hit, upto, nearer, nearestOf}
+use Rattle.profile.specs.Vertices.{vertex, hit, upto, nearer, nearestOf}
 use Rattle.section.specs.Points.{pointDistance}
 use Rattle.section.specs.Boxes.{boxDistance}
-use Rattle.section.specs.declared.shapes.Vertex.{Vertex}
-use Rattle.section.specs.declared.shapes.CollisionHit.{CollisionHit}
-use Rattle.section.specs.declared.shapes.Aabb.{Aabb}
+use Rattle.profile.specs.declared.shapes.Vertex.{Vertex}
+use Rattle.profile.specs.declared.shapes.CollisionHit.{CollisionHit}
+use Rattle.profile.specs.declared.shapes.Aabb.{Aabb}
 use Rattle.walk.specs.Band.{mean, halfWidth, spanAt}
 use Rattle.walk.specs.Pieces.{piece, wholeWidth, boxOf, variation}
 use Rattle.walk.specs.declared.shapes.RadialBand.{RadialBand}

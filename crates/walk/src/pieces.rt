@@ -1,7 +1,7 @@
 // A piece of the cylinder's width: the two spans that its box and its variation share.
 ghost use mathlib.Core.Path.{_≡_};
 ghost use Prim.Native.Nat.{_≤_};
-ghost use Rattle.section.specs.Vertices.{count};
+ghost use Rattle.profile.specs.Vertices.{count};
 ghost use Rattle.walk.specs.Pieces as pieces;
 ghost use Rattle.walk.specs.Pieces.{spansOf, boxFrom, variationFrom};
 ghost use Rattle.walk.specs.Steps.{measuredOf};

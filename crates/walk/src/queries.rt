@@ -1,7 +1,7 @@
 // The distance of a cylinder, by its axis, and the query: a hit with its counts, or a number.
 ghost use mathlib.Core.Path.{_≡_};
 ghost use Prim.Native.Nat.{_≤_};
-ghost use Rattle.section.specs.Vertices.{count};
+ghost use Rattle.profile.specs.Vertices.{count};
 ghost use Rattle.section.specs.Boxes.{boxDistance};
 ghost use Rattle.walk.specs.Axis as axes;
 ghost use Rattle.walk.specs.Band.{axialBox, bandOf};

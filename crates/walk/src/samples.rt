@@ -1,7 +1,7 @@
 // The starting distance: samples across the cylinder's width.
 ghost use mathlib.Core.Path.{_≡_};
 ghost use Prim.Native.Nat.{_≤_};
-ghost use Rattle.section.specs.Vertices.{count};
+ghost use Rattle.profile.specs.Vertices.{count};
 ghost use Rattle.walk.specs.Walk as walk;
 ghost use Rattle.walk.specs.Steps.{samplesAt};
 use super::pieces::whole_width;

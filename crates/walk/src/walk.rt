@@ -3,7 +3,7 @@ ghost use mathlib.Core.Path.{_≡_};
 ghost use mathlib.Core.Bool.{true, _&&_};
 ghost use Prim.Native.Nat.{_≤_, max};
 ghost use Rattle.arith.specs.F64.{_≺_};
-ghost use Rattle.section.specs.Vertices.{count, hit};
+ghost use Rattle.profile.specs.Vertices.{count, hit};
 ghost use Rattle.section.specs.Boxes.{boxDistance};
 ghost use Rattle.walk.specs.Walk as walk;
 ghost use Rattle.walk.specs.Steps.{Room, BandRoom};

@@ -5,8 +5,8 @@ use mathlib.Core.List.{List, [], _∷_, _++_}
 use mathlib.Core.Path.{_≡_, refl, _∙_}
 use lib.Dec.{T}
 use lib.Ieee.{Float}
-use Rattle.section.specs.Refusals.{anyOf, convexRefusal, fewer, more, notFinite, numbersRefusal, odd, overLimit}
-use Rattle.section.specs.Refusals.{queryRefusal, refuse}
+use Rattle.profile.specs.Refusals.{anyOf, convexRefusal, fewer, more, notFinite, numbersRefusal, odd, overLimit}
+use Rattle.profile.specs.Refusals.{queryRefusal, refuse}
 use Rattle.section.proofs.Demand.Accepted.{Taken}
 use Rattle.section.proofs.Demand.Lists.{All, all-map, cons, found-none, nil}
 

@@ -8,9 +8,9 @@ use lib.Dec.{T, nltb→le}
 use lib.Ieee.{Float, nan}
 use Rattle.arith.specs.Num.{isFinite}
 use Rattle.section.specs.Demand.{UpTo}
-use Rattle.section.specs.Refusals.{anyOf, fewer, more, notFinite, numbersRefusal, odd, overLimit, queryRefusal}
-use Rattle.section.specs.Refusals.{refuse}
-use Rattle.section.specs.Vertices.{count}
+use Rattle.profile.specs.Refusals.{anyOf, fewer, more, notFinite, numbersRefusal, odd, overLimit, queryRefusal}
+use Rattle.profile.specs.Refusals.{refuse}
+use Rattle.profile.specs.Vertices.{count}
 use Rattle.section.proofs.Demand.Hits.{VerticesUpTo}
 use Rattle.section.proofs.Demand.Lists.{All, all-at, all-first, all-map, all-rest, cons, nil, none-found}
 use Rattle.section.proofs.Demand.UpTo.{limit-upTo, upTo-raise}

@@ -10,9 +10,9 @@ use Rattle.arith.specs.F64.{_≺_, _≼_, 𝟘, ∞, e-9, e-12}
 use Rattle.section.specs.Boxes.{boxDistance, boxGap, boxHolds, boxPenetration, boxWitness, edgeBox, middle, probe}
 use Rattle.section.specs.Boxes.{result, wellInside}
 use Rattle.section.specs.Points.{pointDistance}
-use Rattle.section.specs.Vertices.{count, endAt, hit, vertexAt}
-use Rattle.section.specs.declared.shapes.Aabb.{Aabb}
-use Rattle.section.specs.declared.shapes.Vertex.{Vertex}
+use Rattle.profile.specs.Vertices.{count, endAt, hit, vertexAt}
+use Rattle.profile.specs.declared.shapes.Aabb.{Aabb}
+use Rattle.profile.specs.declared.shapes.Vertex.{Vertex}
 use Rattle.section.proofs.Demand.Bounds.{add-upTo, e-8-finite, Finite, finite-raise, finite-upTo, half-finite}
 use Rattle.section.proofs.Demand.Bounds.{neg-finite, zero-finite}
 use Rattle.section.proofs.Demand.Clip.{edgeBox-upTo}

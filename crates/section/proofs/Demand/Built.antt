@@ -11,12 +11,12 @@ use lib.Ieee.Fits.{and-l}
 use lib.ListN.{length, length-append, length-take, take}
 use Rattle.arith.specs.F64.{_≺_, _≼_, 𝟘, e-9}
 use Rattle.arith.specs.Num.{isFinite}
-use Rattle.section.specs.Answers.{polygonKept, sectionKept}
-use Rattle.section.specs.Builder.{keep, lastOf, polygonOf, polygonPoints, raised, samePoint, sectionOf}
-use Rattle.section.specs.Builder.{sectionPoints}
-use Rattle.section.specs.Refusals.{fewer, more, numbersRefusal, odd, polygonRefusal, refuse, sectionRefusal}
-use Rattle.section.specs.Vertices.{any, count, vertex, vertexAt}
-use Rattle.section.specs.declared.shapes.Vertex.{Vertex}
+use Rattle.profile.specs.Kept.{polygonKept, sectionKept}
+use Rattle.profile.specs.Builder.{keep, lastOf, polygonOf, polygonPoints, raised, samePoint, sectionOf}
+use Rattle.profile.specs.Builder.{sectionPoints}
+use Rattle.profile.specs.Refusals.{fewer, more, numbersRefusal, odd, polygonRefusal, refuse, sectionRefusal}
+use Rattle.profile.specs.Vertices.{any, count, vertex, vertexAt}
+use Rattle.profile.specs.declared.shapes.Vertex.{Vertex}
 use Rattle.section.proofs.Demand.Acceptable.{Acceptable}
 use Rattle.section.proofs.Demand.Accepted.{numbers-taken, refuse-none, Taken}
 use Rattle.section.proofs.Demand.Lists.{All, all-append, all-at, all-take, cons, nil}

@@ -9,10 +9,10 @@ use Rattle.arith.specs.F64.{_⊘_, _≺_, _≼_, 𝟘, 𝟙, ∞, e-15, e-18}
 use Rattle.arith.specs.Num.{abs}
 use Rattle.section.specs.Boxes.{clip, clipSide, corners, edgeBox, outside, part}
 use Rattle.section.specs.Segments.{segments}
-use Rattle.section.specs.Vertices.{endAt, hit, vertexAt}
-use Rattle.section.specs.declared.shapes.Aabb.{Aabb}
+use Rattle.profile.specs.Vertices.{endAt, hit, vertexAt}
+use Rattle.profile.specs.declared.shapes.Aabb.{Aabb}
 use Rattle.section.specs.declared.shapes.Clip.{Clip}
-use Rattle.section.specs.declared.shapes.Vertex.{Vertex}
+use Rattle.profile.specs.declared.shapes.Vertex.{Vertex}
 use Rattle.section.proofs.Demand.Bounds.{below-key, Finite, neg-finite, not-below-key, sub-upTo, zero-finite}
 use Rattle.section.proofs.Demand.Hits.{BoxUpTo, corners-upTo, endAt-upTo, HitUpTo, nearest-hit, none-yet}
 use Rattle.section.proofs.Demand.Hits.{vertex-raise, vertexAt-upTo, VertexUpTo}

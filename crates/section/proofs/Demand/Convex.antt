@@ -10,9 +10,9 @@ use Rattle.section.specs.Convex.{anyCrossing, convexDistance, convexGap,
 use Rattle.section.specs.Convex.{convexPoint, convexRow, oneSided}
 use Rattle.section.specs.Points.{pointDistance}
 use Rattle.section.specs.Segments.{closest, segments}
-use Rattle.section.specs.Vertices.{count, endAt, hit, vertexAt}
-use Rattle.section.specs.declared.shapes.CollisionHit.{CollisionHit}
-use Rattle.section.specs.declared.shapes.Vertex.{Vertex}
+use Rattle.profile.specs.Vertices.{count, endAt, hit, vertexAt}
+use Rattle.profile.specs.declared.shapes.CollisionHit.{CollisionHit}
+use Rattle.profile.specs.declared.shapes.Vertex.{Vertex}
 use Rattle.section.proofs.Demand.Bounds.{Finite, neg-finite, zero-finite}
 use Rattle.section.proofs.Demand.Boxes.{result-finite}
 use Rattle.section.proofs.Demand.Hits.{BestUpTo, endAt-upTo, found, HitUpTo, LeastUpTo, min-new, nearest-beside}

@@ -13,10 +13,10 @@ use Rattle.arith.specs.F64.{_≺_, _≼_, ∞}
 use Rattle.arith.specs.Num.{min}
 use Rattle.section.specs.Boxes.{corners}
 use Rattle.section.specs.Demand.{UpTo}
-use Rattle.section.specs.Vertices.{count, endAt, nearer, nearestOf, next, vertexAt}
-use Rattle.section.specs.declared.shapes.Aabb.{Aabb}
-use Rattle.section.specs.declared.shapes.CollisionHit.{CollisionHit}
-use Rattle.section.specs.declared.shapes.Vertex.{Vertex}
+use Rattle.profile.specs.Vertices.{count, endAt, nearer, nearestOf, next, vertexAt}
+use Rattle.profile.specs.declared.shapes.Aabb.{Aabb}
+use Rattle.profile.specs.declared.shapes.CollisionHit.{CollisionHit}
+use Rattle.profile.specs.declared.shapes.Vertex.{Vertex}
 use Rattle.section.proofs.Demand.Bounds.{below-infinity, Finite, finite-upTo, infinity-not-below}
 use Rattle.section.proofs.Demand.Bounds.{infinity-not-le, upTo-number}
 use Rattle.section.proofs.Demand.Steps.{pick, upto-keeps, upto-makes}

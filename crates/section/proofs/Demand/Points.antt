@@ -13,10 +13,10 @@ use Rattle.section.specs.Demand.{UpTo, offAxis}
 use Rattle.section.specs.Points.{inSection, meridian, pointDistance, sphereDistance, surface, surfaceNear}
 use Rattle.section.specs.Points.{surfaceStep}
 use Rattle.section.specs.Segments.{closest}
-use Rattle.section.specs.Vertices.{count, endAt, hit, nearer, next, vertexAt}
-use Rattle.section.specs.declared.shapes.CollisionHit.{CollisionHit}
-use Rattle.section.specs.declared.shapes.Sphere.{Sphere}
-use Rattle.section.specs.declared.shapes.Vertex.{Vertex}
+use Rattle.profile.specs.Vertices.{count, endAt, hit, nearer, next, vertexAt}
+use Rattle.profile.specs.declared.shapes.CollisionHit.{CollisionHit}
+use Rattle.profile.specs.declared.shapes.Sphere.{Sphere}
+use Rattle.profile.specs.declared.shapes.Vertex.{Vertex}
 use Rattle.section.proofs.Demand.Bounds.{Finite, finite-upTo, hypot-upTo, infinity-less, neg-finite, sub-upTo}
 use Rattle.section.proofs.Demand.Bounds.{zero-finite}
 use Rattle.section.proofs.Demand.Hits.{BestUpTo, endAt-upTo, found, HitUpTo, nearer-new, next-below, none-yet}

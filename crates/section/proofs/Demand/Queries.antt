@@ -11,11 +11,11 @@ use Rattle.section.specs.Boxes.{boxDistance}
 use Rattle.section.specs.Convex.{convexDistance}
 use Rattle.section.specs.Demand.{Bounded, BoundedOffAxis, OfHit, UpTo}
 use Rattle.section.specs.Points.{meridian, pointDistance, sphereDistance}
-use Rattle.section.specs.Refusals.{boxRefusal, convexRefusal, fewer, pointNumbers, pointRefusal, sphereRefusal}
-use Rattle.section.specs.declared.shapes.Aabb.{Aabb}
+use Rattle.profile.specs.Refusals.{boxRefusal, convexRefusal, fewer, pointNumbers, pointRefusal, sphereRefusal}
+use Rattle.profile.specs.declared.shapes.Aabb.{Aabb}
 use Rattle.section.specs.declared.shapes.Answer.{Answer}
-use Rattle.section.specs.declared.shapes.CollisionHit.{CollisionHit}
-use Rattle.section.specs.declared.shapes.Sphere.{Sphere}
+use Rattle.profile.specs.declared.shapes.CollisionHit.{CollisionHit}
+use Rattle.profile.specs.declared.shapes.Sphere.{Sphere}
 use Rattle.section.proofs.Demand.Accepted.{query-taken, section-taken, taken-vertices}
 use Rattle.section.proofs.Demand.Bounds.{finite-upTo}
 use Rattle.section.proofs.Demand.Boxes.{box-upTo}

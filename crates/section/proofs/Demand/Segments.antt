@@ -7,7 +7,7 @@ use Rattle.arith.specs.F64.{_⊕_, _⊖_, _⊗_, _⊘_, _≺_, _≼_, 𝟘, �
 use Rattle.arith.specs.Num.{abs}
 use Rattle.section.specs.Segments.{along, apart, clamp01, closest, closestPlaces, dot, minus, places, segments}
 use Rattle.section.specs.declared.shapes.Places.{Places}
-use Rattle.section.specs.declared.shapes.Vertex.{Vertex}
+use Rattle.profile.specs.declared.shapes.Vertex.{Vertex}
 use Rattle.section.proofs.Demand.Bounds.{add-finite, add-upTo, Finite, finite-raise, finite-upTo, hypot-finite}
 use Rattle.section.proofs.Demand.Bounds.{mul-finite, neg-finite, sub-finite, sub-upTo}
 use Rattle.section.proofs.Demand.Hits.{HitUpTo, vertex-raise, VertexUpTo}

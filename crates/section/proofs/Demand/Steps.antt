@@ -6,7 +6,7 @@ use mathlib.Core.Path.{_≡_, subst}
 use native.Mathlib.Nat.{eq-or-lt-of-le, le-refl}
 use native.Mathlib.Omega.{arith}
 use lib.Dec.{T}
-use Rattle.section.specs.Vertices.{upto, any}
+use Rattle.profile.specs.Vertices.{upto, any}
 
 pub pick : {A : Type 0} (P : A → Type 0) (b : Bool) {x y : A} → (T b → P x) → (T (not b) → P y) → P (cond b x y)
 pick P true h k = h tt

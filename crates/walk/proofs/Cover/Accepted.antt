@@ -14,7 +14,7 @@ use Rattle.roots.proofs.Rounding.Key.{key, mid, magnitude, unit, number-of}
 use Rattle.roots.proofs.Rounding.KeyOrder.{lt→key, key→le, nlt→key}
 use Rattle.roots.proofs.Rounding.Sum.{neg-key}
 use Rattle.arith.proofs.Laws.Bounded.{Bounded, add-bound, mul-bound}
-use Rattle.section.specs.Refusals.{refuse, anyOf, odd, fewer, more, notFinite, overLimit, numbersRefusal, queryRefusal}
+use Rattle.profile.specs.Refusals.{refuse, anyOf, odd, fewer, more, notFinite, overLimit, numbersRefusal, queryRefusal}
 use Rattle.walk.specs.Axis.{axis}
 use Rattle.walk.specs.Band.{mean, bandOf}
 use Rattle.walk.specs.Cylinders.{neither, cylinderNumbers, cylinderRefusal}

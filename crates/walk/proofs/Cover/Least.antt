@@ -13,7 +13,7 @@ use Rattle.arith.specs.F64.{_≼_, ∞}
 use Rattle.arith.specs.Num.{min}
 use Rattle.roots.proofs.Rounding.KeyOrder.{key→le}
 use Rattle.arith.proofs.Laws.Order.{min-key}
-use Rattle.section.specs.declared.shapes.CollisionHit.{CollisionHit}
+use Rattle.profile.specs.declared.shapes.CollisionHit.{CollisionHit}
 use Rattle.walk.specs.Pieces.{boxOf}
 use Rattle.walk.specs.Walk.{Walk, start, boxHit, waiting, measured, walk, reported}
 use Rattle.walk.specs.Cover.{Least}

@@ -13,8 +13,8 @@ use Rattle.arith.specs.F64.{_⊕_, _⊖_, _≺_, _≼_, e-12}
 use Rattle.roots.proofs.Rounding.Key.{number-of}
 use Rattle.roots.proofs.Rounding.KeyOrder.{key→le, lt→key, nlt→key}
 use Rattle.roots.proofs.Rounding.Sum.{sub-number}
-use Rattle.section.specs.Vertices.{hit, nearer}
-use Rattle.section.specs.declared.shapes.CollisionHit.{CollisionHit}
+use Rattle.profile.specs.Vertices.{hit, nearer}
+use Rattle.profile.specs.declared.shapes.CollisionHit.{CollisionHit}
 use Rattle.walk.specs.Pieces.{boxOf, variation}
 use Rattle.walk.specs.Walk.{dropped, better, halved, boxHit, waiting}
 use Rattle.walk.specs.declared.shapes.RadialBand.{RadialBand}

@@ -11,7 +11,7 @@ use Rattle.arith.specs.Num.{max}
 use Rattle.roots.specs.Roots.{hypot}
 use Rattle.roots.proofs.Rounding.Key.{key, mid}
 use Rattle.section.specs.Demand.{UpTo}
-use Rattle.section.specs.declared.shapes.Aabb.{Aabb}
+use Rattle.profile.specs.declared.shapes.Aabb.{Aabb}
 use Rattle.section.proofs.Demand.Bounds.{Finite, add-finite, add-upTo, finite-upTo, hypot-finite}
 use Rattle.section.proofs.Demand.Bounds.{hypot-upTo, sub-finite, sub-upTo, zero-finite, zero-key}
 use Rattle.walk.specs.Band.{axialBox, mean, spanAt, toward0}

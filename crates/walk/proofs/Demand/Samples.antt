@@ -7,7 +7,7 @@ use native.Mathlib.Nat.{le-of-suc-le-suc}
 use lib.Ieee.{Float}
 use Rattle.arith.specs.F64.{𝟘, ∞}
 use Rattle.section.specs.Points.{pointDistance}
-use Rattle.section.specs.Vertices.{hit, nearer, nearestOf, vertex}
+use Rattle.profile.specs.Vertices.{hit, nearer, nearestOf, vertex}
 use Rattle.section.proofs.Demand.Bounds.{Finite, add-finite, finite-raise, finite-upTo, half-finite, mul-finite}
 use Rattle.section.proofs.Demand.Bounds.{sub-finite, zero-finite}
 use Rattle.section.proofs.Demand.Hits.{BestUpTo, VertexUpTo, VerticesUpTo, nearer-best, none-yet}

@@ -9,7 +9,7 @@ use lib.Ieee.{Float, eq, le, lt, neg, ofBits}
 use Rattle.arith.specs.F64.{_⊕_, _≺_, e-12}
 use Rattle.arith.specs.Num.{isFinite}
 use Rattle.section.specs.Demand.{UpTo}
-use Rattle.section.specs.declared.shapes.CollisionHit.{CollisionHit}
+use Rattle.profile.specs.declared.shapes.CollisionHit.{CollisionHit}
 use Rattle.section.proofs.Demand.Bounds.{Finite, add-finite, finite-raise, finite-upTo, infinity-not-below}
 use Rattle.section.proofs.Demand.Bounds.{infinity-plus}
 use Rattle.section.proofs.Demand.Boxes.{box-upTo}

@@ -6,8 +6,8 @@ use native.Mathlib.Omega.{arith}
 use borrow.Author.Needs.{needs}
 use lib.Ieee.{ne, nan}
 use lib.ListN.{length, getD}
-use Rattle.section.proofs.Fold.{any-more, any-end, any-at}
-use Rattle.section.specs.Vertices.{any}
+use Rattle.profile.proofs.Fold.{any-more, any-end, any-at}
+use Rattle.profile.specs.Vertices.{any}
 use Rattle.replay.specs.Builders.{blank, anyWritten}
 use Rattle.replay.proofs.builders.any_written.Statement.{statement}
 use Rattle.replay.proofs.builders.any_written.Tie as tie

@@ -4,9 +4,9 @@ use native.Mathlib.Omega.{arith}
 use mathlib.Core.Bool.{false}
 use mathlib.Core.Path.{_≡_, refl}
 use borrow.Author.Needs.{needs}
-use Rattle.section.specs.Vertices.{vertexAt, any}
+use Rattle.profile.specs.Vertices.{vertexAt, any}
 use Rattle.section.specs.Boxes.{wellInside}
-use Rattle.section.proofs.Fold.{any-more, any-end, any-at}
+use Rattle.profile.proofs.Fold.{any-more, any-end, any-at}
 use Rattle.section.proofs.aabb.any_vertex_inside.Statement.{statement}
 use Rattle.section.proofs.aabb.any_vertex_inside.Tie as tie
 

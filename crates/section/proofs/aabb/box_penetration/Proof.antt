@@ -1,7 +1,7 @@
 -- `section::aabb::box_penetration` meets its contract. Assumes nothing.
 use Rattle.section.specs.Boxes.{boxPenetration}
 use borrow.Author.Needs.{needs}
-use Rattle.section.specs.Vertices.{upto}
+use Rattle.profile.specs.Vertices.{upto}
 use Rattle.section.proofs.aabb.box_penetration.Statement.{statement}
 use Rattle.section.proofs.aabb.box_penetration.Tie as tie
 

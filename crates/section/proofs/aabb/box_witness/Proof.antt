@@ -4,9 +4,9 @@ use native.Mathlib.Omega.{arith}
 use mathlib.Core.Bool.{cond}
 use mathlib.Core.Path.{_≡_, refl}
 use borrow.Author.Needs.{needs}
-use Rattle.section.specs.Vertices.{vertexAt, upto}
+use Rattle.profile.specs.Vertices.{vertexAt, upto}
 use Rattle.section.specs.Boxes.{wellInside, boxWitness}
-use Rattle.section.proofs.Fold.{upto-more, upto-end}
+use Rattle.profile.proofs.Fold.{upto-more, upto-end}
 use Rattle.section.proofs.aabb.box_witness.Statement.{statement}
 use Rattle.section.proofs.aabb.box_witness.Tie as tie
 

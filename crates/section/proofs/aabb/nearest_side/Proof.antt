@@ -1,6 +1,6 @@
 -- `section::aabb::nearest_side` meets its contract. Assumes nothing.
 use borrow.Author.Needs.{needs}
-use Rattle.section.specs.Vertices.{upto}
+use Rattle.profile.specs.Vertices.{upto}
 use Rattle.section.proofs.aabb.nearest_side.Statement.{statement}
 use Rattle.section.proofs.aabb.nearest_side.Tie as tie
 

@@ -5,9 +5,9 @@ use native.Mathlib.Omega.{arith}
 use mathlib.Core.Bool.{false}
 use mathlib.Core.Path.{_≡_, refl, sym, ap, _∙_}
 use borrow.Author.Needs.{needs}
-use Rattle.section.specs.Vertices.{vertexAt, endAt, any}
+use Rattle.profile.specs.Vertices.{vertexAt, endAt, any}
 use Rattle.section.specs.Convex.{properCrossing, rowCrossing, anyCrossing}
-use Rattle.section.proofs.Fold.{any-more, any-end, any-at}
+use Rattle.profile.proofs.Fold.{any-more, any-end, any-at}
 use Rattle.section.proofs.convex.any_cross.Statement.{statement}
 use Rattle.section.proofs.convex.any_cross.Tie as tie
 

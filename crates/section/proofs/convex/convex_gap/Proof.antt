@@ -4,9 +4,9 @@ use native.Mathlib.Omega.{arith}
 use mathlib.Core.Path.{_≡_}
 use borrow.Author.Needs.{needs}
 use Rattle.arith.specs.F64.{∞}
-use Rattle.section.specs.Vertices.{hit, vertexAt, upto}
+use Rattle.profile.specs.Vertices.{hit, vertexAt, upto}
 use Rattle.section.specs.Convex.{convexRow, convexGap}
-use Rattle.section.proofs.Fold.{upto-more, upto-end}
+use Rattle.profile.proofs.Fold.{upto-more, upto-end}
 use Rattle.section.proofs.convex.convex_gap.Statement.{statement}
 use Rattle.section.proofs.convex.convex_gap.Tie as tie
 

@@ -5,10 +5,10 @@ use mathlib.Core.Path.{_≡_}
 use borrow.Author.Needs.{needs}
 use Rattle.arith.specs.F64.{∞}
 use Rattle.arith.specs.Num.{min}
-use Rattle.section.specs.Vertices.{vertexAt, endAt, upto}
+use Rattle.profile.specs.Vertices.{vertexAt, endAt, upto}
 use Rattle.section.specs.Segments.{closest}
 use Rattle.section.specs.Convex.{convexNear}
-use Rattle.section.proofs.Fold.{upto-more, upto-end}
+use Rattle.profile.proofs.Fold.{upto-more, upto-end}
 use Rattle.section.proofs.convex.convex_near.Statement.{statement}
 use Rattle.section.proofs.convex.convex_near.Tie as tie
 

@@ -3,9 +3,9 @@ use Prim.Native.Nat.{_≤_, _-_}
 use native.Mathlib.Omega.{arith}
 use mathlib.Core.Path.{_≡_, refl}
 use borrow.Author.Needs.{needs}
-use Rattle.section.specs.Vertices.{hit, vertexAt, upto, nearestOf}
+use Rattle.profile.specs.Vertices.{hit, vertexAt, upto, nearestOf}
 use Rattle.section.specs.Convex.{convexPoint, convexPenetration}
-use Rattle.section.proofs.Fold.{upto-more, upto-end}
+use Rattle.profile.proofs.Fold.{upto-more, upto-end}
 use Rattle.section.proofs.convex.convex_penetration.Statement.{statement}
 use Rattle.section.proofs.convex.convex_penetration.Tie as tie
 

@@ -3,10 +3,10 @@ use Prim.Native.Nat.{_≤_, _-_}
 use native.Mathlib.Omega.{arith}
 use mathlib.Core.Path.{_≡_, refl}
 use borrow.Author.Needs.{needs}
-use Rattle.section.specs.Vertices.{vertexAt, endAt, upto, nearestOf}
+use Rattle.profile.specs.Vertices.{vertexAt, endAt, upto, nearestOf}
 use Rattle.section.specs.Segments.{segments}
 use Rattle.section.specs.Convex.{convexRow}
-use Rattle.section.proofs.Fold.{upto-more, upto-end}
+use Rattle.profile.proofs.Fold.{upto-more, upto-end}
 use Rattle.section.proofs.convex.convex_row.Statement.{statement}
 use Rattle.section.proofs.convex.convex_row.Tie as tie
 

@@ -7,7 +7,7 @@ use mathlib.Core.Path.{_≡_, refl}
 use lib.Ieee.{neg}
 use borrow.Author.Needs.{needs}
 use Rattle.arith.specs.F64.{_≺_, e-9}
-use Rattle.section.specs.Vertices.{vertexAt, endAt, any}
+use Rattle.profile.specs.Vertices.{vertexAt, endAt, any}
 use Rattle.section.specs.Convex.{orientation, oneSided}
 use Rattle.section.proofs.Flags.{flag-more, both-set, not-both-set}
 use Rattle.section.proofs.convex.point_in_convex.Statement.{statement}

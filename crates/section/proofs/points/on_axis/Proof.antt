@@ -3,9 +3,9 @@ use Prim.Native.Nat.{_≤_, _-_}
 use native.Mathlib.Omega.{arith}
 use mathlib.Core.Bool.{false}
 use mathlib.Core.Path.{_≡_, refl}
-use Rattle.section.specs.Vertices.{vertexAt, endAt, any}
+use Rattle.profile.specs.Vertices.{vertexAt, endAt, any}
 use Rattle.section.specs.Points.{insideAxisEdge}
-use Rattle.section.proofs.Fold.{any-more, any-end, any-at}
+use Rattle.profile.proofs.Fold.{any-more, any-end, any-at}
 use borrow.Author.Needs.{needs}
 use Rattle.section.proofs.points.on_axis.Statement.{statement}
 use Rattle.section.proofs.points.on_axis.Tie as tie

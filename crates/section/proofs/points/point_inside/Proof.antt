@@ -4,9 +4,9 @@ use native.Mathlib.Omega.{arith}
 use mathlib.Core.Bool.{false}
 use mathlib.Core.Path.{_≡_, refl}
 use lib.Ieee.{unlike}
-use Rattle.section.specs.Vertices.{vertexAt, endAt, upto}
+use Rattle.profile.specs.Vertices.{vertexAt, endAt, upto}
 use Rattle.section.specs.Points.{crossing, oddCrossings}
-use Rattle.section.proofs.Fold.{upto-more, upto-end}
+use Rattle.profile.proofs.Fold.{upto-more, upto-end}
 use borrow.Author.Needs.{needs}
 use Rattle.section.proofs.points.point_inside.Statement.{statement}
 use Rattle.section.proofs.points.point_inside.Tie as tie

@@ -3,9 +3,9 @@ use Prim.Native.Nat.{_≤_, _-_}
 use native.Mathlib.Omega.{arith}
 use mathlib.Core.Path.{_≡_}
 use Rattle.arith.specs.F64.{∞}
-use Rattle.section.specs.Vertices.{hit, vertexAt, upto}
+use Rattle.profile.specs.Vertices.{hit, vertexAt, upto}
 use Rattle.section.specs.Points.{surfaceStep, surfaceNear}
-use Rattle.section.proofs.Fold.{upto-more, upto-end}
+use Rattle.profile.proofs.Fold.{upto-more, upto-end}
 use borrow.Author.Needs.{needs}
 use Rattle.section.proofs.points.surface_near.Statement.{statement}
 use Rattle.section.proofs.points.surface_near.Tie as tie

@@ -3,7 +3,7 @@ use borrow.Author.Needs.{needs}
 use Rattle.section.specs.Answers.{boxAnswer}
 use Rattle.section.specs.Demand.{Bounded}
 use Rattle.section.proofs.Demand.Queries.{answered, box-demand}
-use Rattle.section.proofs.Refusals.Queries.{refused}
+use Rattle.section.proofs.Answered.{refused}
 use Rattle.section.proofs.queries.aabb_polygon_distance.Statement.{statement}
 use Rattle.section.proofs.queries.aabb_polygon_distance.Tie as tie
 

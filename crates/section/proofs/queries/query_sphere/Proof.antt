@@ -3,7 +3,7 @@ use borrow.Author.Needs.{needs}
 use Rattle.section.specs.Answers.{sphereAnswer}
 use Rattle.section.specs.Demand.{BoundedOffAxis}
 use Rattle.section.proofs.Demand.Queries.{answered, sphere-demand}
-use Rattle.section.proofs.Refusals.Queries.{refused}
+use Rattle.section.proofs.Answered.{refused}
 use Rattle.section.proofs.queries.query_sphere.Statement.{statement}
 use Rattle.section.proofs.queries.query_sphere.Tie as tie
 

@@ -3,7 +3,7 @@ use borrow.Author.Needs.{needs}
 use Rattle.section.specs.Answers.{pointAnswer}
 use Rattle.section.specs.Demand.{BoundedOffAxis}
 use Rattle.section.proofs.Demand.Queries.{answered, point-demand}
-use Rattle.section.proofs.Refusals.Queries.{refused}
+use Rattle.section.proofs.Answered.{refused}
 use Rattle.section.proofs.queries.signed_distance.Statement.{statement}
 use Rattle.section.proofs.queries.signed_distance.Tie as tie
 

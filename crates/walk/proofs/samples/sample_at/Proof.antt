@@ -1,5 +1,5 @@
 -- `walk::samples::sample_at` meets its contract. Assumes nothing.
-use Rattle.section.specs.Vertices.{upto}
+use Rattle.profile.specs.Vertices.{upto}
 use Rattle.walk.specs.Walk.{sampleAt}
 use borrow.Author.Needs.{needs}
 use Rattle.walk.proofs.samples.sample_at.Statement.{statement}

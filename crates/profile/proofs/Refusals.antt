@@ -1,0 +1,4 @@
+-- Laws of the refusals: a test over a list, the lowest number, a query's number.
+pub mod AnyOf
+pub mod Lowest
+pub mod Queries

@@ -1,0 +1,33 @@
+// The records of a profile and of what stands beside it: vertices, boxes, spheres, hits, and the
+// answer of a builder.
+use arith::Vec3;
+
+pub struct Vertex {
+    pub z: f64,
+    pub r: f64,
+}
+
+// z from z0 to z1, radius from r0 to r1
+pub struct Aabb {
+    pub z0: f64,
+    pub z1: f64,
+    pub r0: f64,
+    pub r1: f64,
+}
+
+pub struct Sphere {
+    pub center: Vec3,
+    pub radius: f64,
+}
+
+// A signed distance and its witness, a point of the section.
+pub struct CollisionHit {
+    pub distance: f64,
+    pub witness: Vertex,
+}
+
+// The answer of a builder: how many numbers are kept, or the number under which it is turned down.
+pub enum Kept {
+    Numbers(usize),
+    Refused(u32),
+}
