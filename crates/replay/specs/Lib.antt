@@ -1,7 +1,9 @@
 pub mod Bits
+pub mod Bodies
 pub mod Builders
 pub mod Line
 pub mod Lists
 pub mod Queries
 pub mod Replies
 pub mod Text
+pub mod Verdicts

@@ -1,11 +1,15 @@
--- The reply to a line whose last field ends it, and to a query's answer.
+-- The reply to a line whose last field ends it, and to the answer of a query or a verdict.
 use Prim.Native.Nat.{ℕ}
-use mathlib.Core.Bool.{cond}
+use mathlib.Core.Bool.{true, false, cond}
 use mathlib.Core.List.{List}
 use lib.Dec.{eqb}
 use lib.ListN.{length}
 use Rattle.section.specs.declared.shapes.Answer.{Answer}
 use Rattle.section.specs.declared.shapes.Answer.the-variants as answer
+use Rattle.walk.specs.declared.shapes.CylinderAnswer.{CylinderAnswer}
+use Rattle.walk.specs.declared.shapes.CylinderAnswer.the-variants as cylinder
+use Rattle.walk.specs.declared.shapes.Verdict.{Verdict}
+use Rattle.walk.specs.declared.shapes.Verdict.the-variants as verdict
 use Rattle.replay.specs.declared.replies.Reply.{Reply}
 use Rattle.replay.specs.declared.replies.Reply.the-variants as reply
 
@@ -16,3 +20,12 @@ ending s next r = cond (eqb next (length s)) r reply.Malformed
 abbrev pub queryReply : Answer → Reply
 queryReply (answer.Hit h) = reply.Hit h
 queryReply (answer.Refused n) = reply.Refused n
+
+abbrev pub cylinderReply : CylinderAnswer → Reply
+cylinderReply (cylinder.Hit h) = reply.Walked h
+cylinderReply (cylinder.Refused n) = reply.Refused n
+
+abbrev pub verdictReply : Verdict → Reply
+verdictReply verdict.Clear = reply.Verdict false
+verdictReply verdict.Collision = reply.Verdict true
+verdictReply (verdict.Refused n) = reply.Refused n

@@ -1,28 +1,35 @@
 // Replays a list of queries: each line of standard input is a query, and each line of standard
-// output the reply to one, or `malformed`. A query is a letter, its kind, then its fields, each
-// behind a space. An f64 is the 16 hex digits of its bits, in lower case. A list stands after the
-// count of its numbers, 4 hex digits, at most 1,024; so does k, the size of a builder's space.
+// output the reply to one, or `malformed`. A query is its kind, one or two letters, then its fields,
+// each behind a space. An f64 is the 16 hex digits of its bits, in lower case. A list stands after
+// the count of its numbers, 4 hex digits, at most 1,024; so does k, the size of a builder's space.
 //     r x                       the root of x
 //     h a b                     the hypot of a and b
 //     p n s.. x y z             the distance of a point from the section s
 //     s n s.. x y z radius      of a sphere
 //     b n s.. z0 z1 r0 r1       of a box
 //     c n convex.. m section..  of a convex body
+//     y n s.. ax ay az bx by bz radius
+//                               of a cylinder from a to b
+//     vs, vb, vc, vy            the verdict on such a body: the same fields, then the clearance
 //     S n points.. k            the builder of a section
 //     P n points.. k            the builder of a polygon
-// A distance is replied with its witness's z and radius; a builder with the count of the numbers
-// that it keeps, in decimal, and these, or with `damaged` where it changed any other number of its
-// space. What is turned down is `refused` and the number.
+// A distance is replied with its witness's z and radius, a cylinder's also with how many boxes were
+// measured, how many pieces waited at most, and 1 where the walk was cut, else 0, in decimal; a
+// verdict with 1, a collision, or 0; a builder with the count of the numbers that it keeps, in
+// decimal, and these, or with `damaged` where it changed any other number of its space. What is
+// turned down is `refused` and the number.
 ghost use Prim.Native.Nat.{_≤_};
 ghost use lib.ListN.{length};
 
 mod bits;
+mod bodies;
 mod builders;
 mod line;
 mod lists;
 mod queries;
 mod replies;
 mod text;
+mod verdicts;
 
 use bits::pattern;
 use builders::BLANK;
@@ -32,6 +39,7 @@ use line::read_more;
 use line::to_front;
 use replies::Reply;
 use section::CollisionHit;
+use walk::CylinderHit;
 
 // What is read and not yet answered, the bytes of the buffer from start up to end; and whether the
 // input has ended.
@@ -52,6 +60,8 @@ fn reply_to(line: &[u8], space: &mut [f64]) -> Reply {
         b's' => queries::sphere(line),
         b'b' => queries::aabb(line),
         b'c' => queries::convex(line),
+        b'y' => queries::cylinder(line),
+        b'v' => verdicts::verdict(line),
         b'S' => builders::section(line, space),
         b'P' => builders::polygon(line, space),
         _ => Reply::Malformed,
@@ -71,6 +81,25 @@ fn print_hit(hit: CollisionHit) -> bool {
     print_number(hit.distance);
     print_next(hit.witness.z);
     print_next(hit.witness.r)
+}
+
+fn print_count(n: usize) -> bool {
+    io::write_all(STDOUT_FILENO, b" ");
+    io::print_decimal(STDOUT_FILENO, n as u64)
+}
+
+fn print_walked(walked: CylinderHit) -> bool {
+    print_hit(walked.hit);
+    print_count(walked.boxes);
+    print_count(walked.waiting);
+    print_count(if walked.cut { 1 } else { 0 })
+}
+
+fn print_verdict(collision: bool) -> bool {
+    if collision {
+        return io::write_all(STDOUT_FILENO, b"1");
+    }
+    io::write_all(STDOUT_FILENO, b"0")
 }
 
 fn print_refused(number: u32) -> bool {
@@ -95,6 +124,8 @@ fn print(reply: Reply, space: &[f64]) -> bool {
     match reply {
         Reply::Number(x) => print_number(x),
         Reply::Hit(hit) => print_hit(hit),
+        Reply::Walked(walked) => print_walked(walked),
+        Reply::Verdict(collision) => print_verdict(collision),
         Reply::Kept(n) => print_kept(space, n),
         Reply::Refused(number) => print_refused(number),
         Reply::Damaged => io::write_all(STDOUT_FILENO, b"damaged"),

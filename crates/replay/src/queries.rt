@@ -2,12 +2,15 @@
 // the line.
 ghost use mathlib.Core.Path.{_≡_};
 ghost use Rattle.replay.specs.Queries as queries;
+use super::bodies::box_at;
+use super::bodies::cylinder_at;
+use super::bodies::sphere_at;
+use super::bodies::vector_at;
 use super::lists::list_at;
 use super::lists::number_at;
 use super::replies::Reply;
+use super::replies::cylinder_reply;
 use super::replies::query_reply;
-use arith::Vec3;
-use section::Sphere;
 
 pub fn sqrt(line: &[u8]) -> Reply
     ensures { λ r. ⌜ r ≡ queries.sqrt (now (line .entry)) ⌝ }
@@ -36,16 +39,9 @@ pub fn point(line: &[u8]) -> Reply
     let mut list = [0.0; 1024];
     let section = list_at(line, 1, &mut list);
     let n = section.count;
-    let x = number_at(line, section.next);
-    let y = number_at(line, x.next);
-    let z = number_at(line, y.next);
-    if z.next == line.len() {
-        let point = Vec3 {
-            x: x.value,
-            y: y.value,
-            z: z.value,
-        };
-        return query_reply(section::signed_distance(&list[..n], point));
+    let body = vector_at(line, section.next);
+    if body.next == line.len() {
+        return query_reply(section::signed_distance(&list[..n], body.value));
     }
     Reply::Malformed
 }
@@ -56,21 +52,9 @@ pub fn sphere(line: &[u8]) -> Reply
     let mut list = [0.0; 1024];
     let section = list_at(line, 1, &mut list);
     let n = section.count;
-    let x = number_at(line, section.next);
-    let y = number_at(line, x.next);
-    let z = number_at(line, y.next);
-    let radius = number_at(line, z.next);
-    if radius.next == line.len() {
-        let center = Vec3 {
-            x: x.value,
-            y: y.value,
-            z: z.value,
-        };
-        let sphere = Sphere {
-            center,
-            radius: radius.value,
-        };
-        return query_reply(section::query_sphere(&list[..n], sphere));
+    let body = sphere_at(line, section.next);
+    if body.next == line.len() {
+        return query_reply(section::query_sphere(&list[..n], body.value));
     }
     Reply::Malformed
 }
@@ -81,19 +65,11 @@ pub fn aabb(line: &[u8]) -> Reply
     let mut list = [0.0; 1024];
     let section = list_at(line, 1, &mut list);
     let n = section.count;
-    let z0 = number_at(line, section.next);
-    let z1 = number_at(line, z0.next);
-    let r0 = number_at(line, z1.next);
-    let r1 = number_at(line, r0.next);
-    if r1.next == line.len() {
+    let body = box_at(line, section.next);
+    if body.next == line.len() {
+        let b = body.value;
         let polygon = &list[..n];
-        return query_reply(section::aabb_polygon_distance(
-            z0.value,
-            z1.value,
-            r0.value,
-            r1.value,
-            polygon,
-        ));
+        return query_reply(section::aabb_polygon_distance(b.z0, b.z1, b.r0, b.r1, polygon));
     }
     Reply::Malformed
 }
@@ -109,6 +85,19 @@ pub fn convex(line: &[u8]) -> Reply
     let m = section.count;
     if section.next == line.len() {
         return query_reply(section::convex_polygon_distance(&list[..n], &other[..m]));
+    }
+    Reply::Malformed
+}
+
+pub fn cylinder(line: &[u8]) -> Reply
+    ensures { λ r. ⌜ r ≡ queries.cylinder (now (line .entry)) ⌝ }
+{
+    let mut list = [0.0; 1024];
+    let section = list_at(line, 1, &mut list);
+    let n = section.count;
+    let body = cylinder_at(line, section.next);
+    if body.next == line.len() {
+        return cylinder_reply(walk::query_cylinder(&list[..n], body.value));
     }
     Reply::Malformed
 }

@@ -3,10 +3,16 @@ ghost use mathlib.Core.Path.{_≡_};
 ghost use Rattle.replay.specs.Replies as replies;
 use section::Answer;
 use section::CollisionHit;
+use walk::CylinderAnswer;
+use walk::CylinderHit;
+use walk::Verdict;
 
 pub enum Reply {
     Number(f64),
     Hit(CollisionHit),
+    Walked(CylinderHit),
+    // Whether the body collides.
+    Verdict(bool),
     // How many numbers a builder keeps.
     Kept(usize),
     Refused(u32),
@@ -21,5 +27,24 @@ pub fn query_reply(answer: Answer) -> Reply
     match answer {
         Answer::Hit(hit) => Reply::Hit(hit),
         Answer::Refused(number) => Reply::Refused(number),
+    }
+}
+
+pub fn cylinder_reply(answer: CylinderAnswer) -> Reply
+    ensures { λ r. ⌜ r ≡ replies.cylinderReply answer ⌝ }
+{
+    match answer {
+        CylinderAnswer::Hit(hit) => Reply::Walked(hit),
+        CylinderAnswer::Refused(number) => Reply::Refused(number),
+    }
+}
+
+pub fn verdict_reply(verdict: Verdict) -> Reply
+    ensures { λ r. ⌜ r ≡ replies.verdictReply verdict ⌝ }
+{
+    match verdict {
+        Verdict::Clear => Reply::Verdict(false),
+        Verdict::Collision => Reply::Verdict(true),
+        Verdict::Refused(number) => Reply::Refused(number),
     }
 }

@@ -5,8 +5,11 @@ use crate::random::Random;
 use crate::{generate, judge, near};
 use std::collections::BTreeMap;
 
-/// Accepted queries of each kind that are drawn at random, and queries at each threshold.
+/// Accepted queries of each kind that are drawn at random, fewer for verdicts, and queries at each threshold.
 const RANDOM: usize = 280;
+const VERDICTS: usize = 80;
+/// Walks that are cut, each of 8,192 boxes.
+const CUT: usize = 12;
 const NEAR: usize = 12;
 /// Refusals of each kind with each number.
 const REFUSALS: usize = 3;
@@ -37,7 +40,7 @@ fn readings() -> Vec<Query> {
         query(Kind::Point, &[0.0, 0.0, 10.0]),
         query(Kind::Point, &[3.0, 4.0, 30.0]),
         query(Kind::Point, &[5.0, 0.0, 20.0]),
-        Query::new(Kind::Point, &[axis], &[1.0, 2.0, 3.0]),
+        Query::new(Kind::Point, std::slice::from_ref(&axis), &[1.0, 2.0, 3.0]),
         query(Kind::Point, &[0.0, 0.0, 1_048_576.0]),
         query(Kind::Point, &[0.0, 0.0, 1_048_577.0]),
         query(Kind::Sphere, &[0.0, 0.0, 30.0, 4.0]),
@@ -62,20 +65,49 @@ fn readings() -> Vec<Query> {
         Query::builder(Kind::Polygon, vec![0.0, -1.0, 1.0, 1.0, 2.0, 0.0, 0.0, -1.0], 8),
     ];
     if cfg!(feature = "cylinders") {
-        for numbers in [
-            [15.0, 0.0, 0.0, 15.0, 0.0, 30.0, 2.0],
-            [12.0, 0.0, 10.0, 30.0, 0.0, 10.0, 0.0],
-            [12.0, 0.0, 10.0, 30.0, 0.0, 10.0, 2f64.powi(-30)],
-            [12.0, 0.0, 10.0, 30.0, 0.0, 10.0, 2.0],
-            [4.0, 8.0, 21.5, 24.0, 8.0, 21.5, 4.0],
-            [0.0, 0.0, 10.0, 30.0, 0.0, 10.0, 1.0],
-            [0.0, 0.0, -1048576.0, 30.0, 0.0, -1048576.0, 1048576.0],
-            [0.0, 0.0, 0.0, 1.0, 0.0, 1.0, 1.0],
-        ] {
-            all.push(query(Kind::Cylinder, &numbers));
-        }
+        all.extend(cylinders().map(|numbers| query(Kind::Cylinder, &numbers)));
+        let sphere = |clearance| query(Kind::VerdictSphere, &[0.0, 0.0, 30.0, 4.0, clearance]);
+        all.extend([6.0, 6.0 + 1e-9, 6.0 + 2e-9, -1.0, 1_048_576.0, 1_048_577.0, f64::INFINITY, f64::NAN].map(sphere));
+        let far = [1.0, 2.0, 3.0, 0.5, 1_048_576.0];
+        all.push(Query::new(Kind::VerdictSphere, std::slice::from_ref(&axis), &far));
+        let bar = |clearance| query(Kind::VerdictCylinder, &[12.0, 0.0, 10.0, 30.0, 0.0, 10.0, 2.0, clearance]);
+        all.extend([2.0, 2.0 + 2e-9].map(bar));
+        all.push(query(Kind::VerdictCylinder, &[0.0, 0.0, 0.0, 1.0, 0.0, 1.0, -1.0, f64::NAN]));
     }
     all
+}
+
+/// Cylinders beside S: document 01's readings and examples of walks, cut and uncut; then lengths of nothing, or whose
+/// reciprocal is the largest or overflows; radii about 0 and 1e-15; limits; and what is turned down.
+fn cylinders() -> impl Iterator<Item = [f64; 7]> {
+    let (tiny, thin) = (5e-324, 1e-15f64);
+    // The smallest length whose reciprocal is an f64, and the one below it.
+    let (short, shorter) = (f64::from_bits(0x0004_0000_0000_0001), f64::from_bits(0x0004_0000_0000_0000));
+    let walks = [
+        [15.0, 0.0, 0.0, 15.0, 0.0, 30.0, 2.0],
+        [12.0, 0.0, 10.0, 30.0, 0.0, 10.0, 0.0],
+        [12.0, 0.0, 10.0, 30.0, 0.0, 10.0, 2f64.powi(-30)],
+        [12.0, 0.0, 10.0, 30.0, 0.0, 10.0, 2.0],
+        [4.0, 8.0, 21.5, 24.0, 8.0, 21.5, 4.0],
+        [0.0, 0.0, 10.0, 30.0, 0.0, 10.0, 1.0],
+        [0.0, 0.0, -1048576.0, 30.0, 0.0, -1048576.0, 1048576.0],
+    ];
+    let lengths = [[0.0, 0.0, 0.0], [0.0, 0.0, tiny], [tiny, 0.0, tiny], [tiny, 0.0, 0.0], [0.0, tiny, 0.0]];
+    let reciprocals =
+        [[short, 0.0, 0.0], [shorter, 0.0, 0.0], [0.0, 0.0, short], [0.0, 0.0, shorter], [0.0, short, 0.0]];
+    let radii = [-0.0, tiny, thin.next_down(), thin, thin.next_up(), 1048576.0, 1048577.0, -tiny, -1.0, f64::NAN];
+    let others = [
+        [15.0, 0.0, 1048576.0, 15.0, 0.0, -1048576.0, 2.0],
+        [-1048576.0, 1048576.0, 1048576.0, 1048576.0, 1048576.0, 1048576.0, 0.0],
+        [12.0, 0.0, 10.0, 1048577.0, 0.0, 10.0, 0.0],
+        [12.0, 0.0, 10.0, f64::INFINITY, 0.0, 10.0, 0.0],
+        [0.0, 0.0, 0.0, 1.0, 0.0, 1.0, 1.0],
+        [0.0, 0.0, 0.0, 0.0, 1.0, 0.0, 1.0],
+        [0.0, 0.0, 0.0, 1.0, 0.0, 1.0, -1.0],
+    ];
+    let ends = lengths.into_iter().chain(reciprocals).map(|[x, y, z]| [0.0, 0.0, 0.0, x, y, z, 0.5]);
+    let across = radii.into_iter().map(|radius| [12.0, 0.0, 10.0, 30.0, 0.0, 10.0, radius]);
+    walks.into_iter().chain(ends).chain(across).chain(others)
 }
 
 /// Everything that the list holds, in order of kind.
@@ -92,14 +124,16 @@ pub fn queries(seed: u64) -> Vec<Query> {
     all
 }
 
-/// Small queries, a large one where the kind has them, and every refusal.
+/// Small queries, a large one where the kind has them, walks that are cut, and every refusal.
 fn drawn(random: &mut Random, kind: Kind) -> Vec<Query> {
     let (mut all, mut refused) = (Vec::new(), BTreeMap::new());
     let (mut small, mut large) = (0, matches!(kind, Kind::Sqrt | Kind::Hypot) || kind >= Kind::Cylinder);
     let complete = |refused: &BTreeMap<u32, usize>| {
         refusals(kind).iter().all(|number| refused.get(number).is_some_and(|&count| count >= REFUSALS))
     };
-    while small < RANDOM || !large || !complete(&refused) {
+    let most = if kind > Kind::Cylinder { VERDICTS } else { RANDOM };
+    let mut cut = if kind == Kind::Cylinder { 0 } else { CUT };
+    while small < most || cut < CUT || !large || !complete(&refused) {
         let query = generate::query(random, kind);
         let numbers = query.lists.iter().map(Vec::len).sum::<usize>();
         let keep = match judge::expected(&query) {
@@ -109,9 +143,13 @@ fn drawn(random: &mut Random, kind: Kind) -> Vec<Query> {
                 *count += 1;
                 *count <= REFUSALS
             }
+            answer if answer.cut() => {
+                cut += 1;
+                cut <= CUT
+            }
             _ if numbers <= SMALL => {
                 small += 1;
-                small <= RANDOM
+                small <= most
             }
             _ => {
                 let first = !large && numbers > 128;

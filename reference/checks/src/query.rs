@@ -156,6 +156,15 @@ impl Answer {
         matches!(self, Answer::Refused(_) | Answer::Spoilt(_))
     }
 
+    /// Whether a piece waited: a walk, not one box.
+    pub fn walked(&self) -> bool {
+        matches!(self, Answer::Walked(_, [_, waiting, _]) if *waiting > 0)
+    }
+
+    pub fn cut(&self) -> bool {
+        matches!(self, Answer::Walked(_, [_, _, 1]))
+    }
+
     pub fn same(&self, other: &Answer) -> bool {
         match (self, other) {
             (Answer::Refused(a), Answer::Refused(b)) => a == b,

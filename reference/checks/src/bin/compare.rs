@@ -126,11 +126,13 @@ fn compare(options: &Options) -> Result<(), String> {
     Ok(())
 }
 
-/// Totals of a kind.
+/// Totals of a kind. Which cylinders were walked, and which walks cut, is told by the Rust's notes.
 #[derive(Default)]
 struct Outcomes {
     accepted: u64,
     last_was_accepted: bool,
+    walked: u64,
+    cut: u64,
     counts: BTreeMap<String, u64>,
 }
 
@@ -138,12 +140,17 @@ impl Outcomes {
     fn count(&mut self, answer: &Answer) {
         self.last_was_accepted = !answer.refused();
         self.accepted += u64::from(self.last_was_accepted);
+        self.walked += u64::from(answer.walked());
+        self.cut += u64::from(answer.cut());
         *self.counts.entry(answer.outcome()).or_default() += 1;
     }
 
     fn print(&self, kind: Kind) -> u64 {
         let total = self.counts.values().sum();
         println!("{kind:?}: {total} queries, {} accepted", self.accepted);
+        if kind == Kind::Cylinder {
+            println!("    {} accepted ones were walked, and {} of the walks were cut", self.walked, self.cut);
+        }
         for (outcome, count) in &self.counts {
             println!("    {count:>9}  {outcome}");
         }

@@ -143,7 +143,7 @@ pub fn convex(random: &mut Random, style: Style, section: &[Vertex]) -> Vec<Vert
     sections::rotated(random, body)
 }
 
-/// Along or across the spindle, a little tilted, or of no length. One in 200 has to be walked: that takes long.
+/// Along or across the spindle, a little tilted, or of no length. One in 200 is made to be walked, which takes long.
 fn cylinder(random: &mut Random, style: Style, section: &[Vertex]) -> Vec<f64> {
     let (z, r) = target(random, style, section);
     let (x, y) = spread(random, r);

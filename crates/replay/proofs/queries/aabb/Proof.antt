@@ -14,24 +14,15 @@ slice-aggregate-list-at c = search needs
 list-at-requires : tie.Need-list-at-requires
 list-at-requires c κs = search needs
 
-number-at-requires : tie.Need-number-at-requires
-number-at-requires c κs = search needs
-
-number-at-requires-2 : tie.Need-number-at-requires-2
-number-at-requires-2 c κs = search needs
-
-number-at-requires-3 : tie.Need-number-at-requires-3
-number-at-requires-3 c κs = search needs
-
-number-at-requires-4 : tie.Need-number-at-requires-4
-number-at-requires-4 c κs = search needs
+box-at-requires : tie.Need-box-at-requires
+box-at-requires c κs = search needs
 
 array-share-prefix-list : tie.Need-array-share-prefix-list
 array-share-prefix-list c = search needs
 
 slice-aggregate-polygon : tie.Need-slice-aggregate-polygon
 slice-aggregate-polygon c =
-    sym (length-take-le _ _ (c .before .before .before .before .before .before .before .before .list-at .ensures .1 .1))
+    sym (length-take-le _ _ (c .before .before .before .before .before .before .list-at .ensures .1 .1))
 
 aabb-polygon-distance-requires : tie.Need-aabb-polygon-distance-requires
 aabb-polygon-distance-requires c κs = search needs
@@ -42,14 +33,11 @@ query-reply-requires c κs = search needs
 returns : tie.Need-returns
 unfolding box
 returns c =
-    let read = c .before .before .before .before .before .before .before .before .before .before .list-at .ensures in
+    let read = c .before .before .before .before .before .before .before .before .list-at .ensures in
     rw (
       ← read .0,
-      ← c .before .before .before .before .before .before .before .before .number-at .ensures,
-      ← c .before .before .before .before .before .before .before .number-at2 .ensures,
-      ← c .before .before .before .before .before .before .number-at3 .ensures,
-      ← c .before .before .before .before .before .number-at4 .ensures,
-      eq-eqb _ _ (c .before .before .before .if1 .taken),
+      ← c .before .before .before .before .before .before .box-at .ensures,
+      eq-eqb _ _ (c .before .before .before .before .if1 .taken),
       ← list-front _ _ _ _ (read .0) (read .1 .0),
       ← c .before .aabb-polygon-distance .ensures .0,
     ) (c .query-reply .ensures)
@@ -58,11 +46,8 @@ returns-2 : tie.Need-returns-2
 unfolding box
 returns-2 c =
     rw (
-      ← c .before .before .before .before .before .before .before .list-at .ensures .0,
-      ← c .before .before .before .before .before .number-at .ensures,
-      ← c .before .before .before .before .number-at2 .ensures,
-      ← c .before .before .before .number-at3 .ensures,
-      ← c .before .before .number-at4 .ensures,
+      ← c .before .before .before .before .list-at .ensures .0,
+      ← c .before .before .box-at .ensures,
       ne-eqb _ _ (c .if1 .left),
     )
 
@@ -72,10 +57,7 @@ aabb-spec =
     (tie.spec
     slice-aggregate-list-at
     list-at-requires
-    number-at-requires
-    number-at-requires-2
-    number-at-requires-3
-    number-at-requires-4
+    box-at-requires
     array-share-prefix-list
     slice-aggregate-polygon
     aabb-polygon-distance-requires

@@ -14,21 +14,15 @@ slice-aggregate-list-at c = search needs
 list-at-requires : tie.Need-list-at-requires
 list-at-requires c κs = search needs
 
-number-at-requires : tie.Need-number-at-requires
-number-at-requires c κs = search needs
-
-number-at-requires-2 : tie.Need-number-at-requires-2
-number-at-requires-2 c κs = search needs
-
-number-at-requires-3 : tie.Need-number-at-requires-3
-number-at-requires-3 c κs = search needs
+vector-at-requires : tie.Need-vector-at-requires
+vector-at-requires c κs = search needs
 
 array-share-prefix-list : tie.Need-array-share-prefix-list
 array-share-prefix-list c = search needs
 
 slice-aggregate-signed-distance : tie.Need-slice-aggregate-signed-distance
 slice-aggregate-signed-distance c =
-    sym (length-take-le _ _ (c .before .before .before .before .before .before .before .list-at .ensures .1 .1))
+    sym (length-take-le _ _ (c .before .before .before .before .before .list-at .ensures .1 .1))
 
 signed-distance-requires : tie.Need-signed-distance-requires
 signed-distance-requires c κs = search needs
@@ -39,12 +33,10 @@ query-reply-requires c κs = search needs
 returns : tie.Need-returns
 unfolding point
 returns c =
-    let read = c .before .before .before .before .before .before .before .before .before .list-at .ensures in
+    let read = c .before .before .before .before .before .before .before .list-at .ensures in
     rw (
       ← read .0,
-      ← c .before .before .before .before .before .before .before .number-at .ensures,
-      ← c .before .before .before .before .before .before .number-at2 .ensures,
-      ← c .before .before .before .before .before .number-at3 .ensures,
+      ← c .before .before .before .before .before .vector-at .ensures,
       eq-eqb _ _ (c .before .before .before .if1 .taken),
       ← list-front _ _ _ _ (read .0) (read .1 .0),
       ← c .before .signed-distance .ensures .0,
@@ -54,10 +46,8 @@ returns-2 : tie.Need-returns-2
 unfolding point
 returns-2 c =
     rw (
-      ← c .before .before .before .before .before .before .list-at .ensures .0,
-      ← c .before .before .before .before .number-at .ensures,
-      ← c .before .before .before .number-at2 .ensures,
-      ← c .before .before .number-at3 .ensures,
+      ← c .before .before .before .before .list-at .ensures .0,
+      ← c .before .before .vector-at .ensures,
       ne-eqb _ _ (c .if1 .left),
     )
 
@@ -67,9 +57,7 @@ point-spec =
     (tie.spec
     slice-aggregate-list-at
     list-at-requires
-    number-at-requires
-    number-at-requires-2
-    number-at-requires-3
+    vector-at-requires
     array-share-prefix-list
     slice-aggregate-signed-distance
     signed-distance-requires
