@@ -1,0 +1,8 @@
+-- The walk through the code of a query over `&[Vertex]`, once for every body: what such a function is (Form), the array and the
+-- vertex (Array), a turn of its loop (Turn), its end (End), the whole (Walk).
+pub mod Form
+pub mod Array
+pub mod State
+pub mod Turn
+pub mod End
+pub mod Walk
