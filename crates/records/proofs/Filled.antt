@@ -1,28 +1,19 @@
--- What holds of the index and the array at the head of the copying loop: at the start, after a turn, and at the end, where it gives
--- the contract. By the front of a list that is set in its next two places.
+-- What holds of the index and the array at the head of the copying loop: at the start, and after a turn, which brings the end
+-- nearer. By the front of a list that is set in its next two places.
 use Prim.Native.Nat.{ℕ, suc, _+_, _*_, _-_, _<_, _≤_}
 use native.Mathlib.Numerals.{add-one}
 use native.Mathlib.Omega.{arith}
 use mathlib.Core.Bool.{Bool, true, false, cond}
 use mathlib.Core.List.{List, [], _∷_, _++_, append-assoc}
-use mathlib.Core.Logic.{_⊎_, inl, inr}
 use mathlib.Core.Path.{_≡_, refl, sym, _∙_, ap, subst}
 use lib.Dec.{ltb}
 use lib.ListN.{length, getD, set, take, length-set}
-use lib.Seq.{take-suc, take-suc-set, take-all}
+use lib.Seq.{take-suc, take-suc-set}
 use lib.Ieee.{Float}
 use borrow.Author.Tests.{ltb-true, ltb-false}
 use Rattle.section.specs.declared.shapes.Vertex.{Vertex}
-use Rattle.walk.specs.Cover.{OfHit, Promised}
-use Rattle.walk.specs.Cylinders.{cylinderAnswer}
-use Rattle.walk.specs.declared.shapes.Cylinder.{Cylinder}
-use Rattle.walk.specs.declared.shapes.CylinderAnswer.{CylinderAnswer}
 use Rattle.records.specs.Flattened.{flattened}
-use Rattle.records.specs.Steps.{stored, next, OfFront}
-
--- the core's promise on a list
-abbrev pub Answered : List Float → Cylinder → CylinderAnswer → Type 0
-Answered s c r = (r ≡ cylinderAnswer s c) × OfHit (Promised s c) r
+use Rattle.records.specs.Steps.{stored, next}
 
 flattened-snoc : (xs : List Vertex) (v : Vertex) → flattened (xs ++ (v ∷ [])) ≡ flattened xs ++ (v .z ∷ v .r ∷ [])
 unfolding flattened

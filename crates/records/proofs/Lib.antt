@@ -1,4 +1,4 @@
--- The copying loop without its machine (Filled), and what its array's front is asked (Answered).
+-- The copying loop without its machine (Filled), what its end gives (Answered), and the walk through its code (Layer).
 pub mod Filled
 pub mod Answered
 pub mod Layer

@@ -1,5 +1,5 @@
--- The turn that leaves the loop, and what follows it. The array is lent to the covered function that asks on its front, and is room
--- again; the locals go, and the answer keeps the contract.
+-- The turn that leaves the loop, and what follows it. The array is lent to the covered function that asks on its front, and is
+-- room again; the locals go, and the answer keeps the contract.
 use Prim.Native.Nat.{ℕ, _≤_}
 use mathlib.Core.Bool.{Bool, false}
 use mathlib.Core.List.{List, [], _∷_}
@@ -15,8 +15,8 @@ use base.Fml.{GName, ftrue, fat, froom, flft, flent}
 use prog.Wp.{Heap, Out, Tables, Wp, atReturn, afterSeq, afterBlock, afterTurn}
 use ghost.Atoms.{Atoms, sem}
 use contract.Monad.{fact}
-use types.Kit.{Given, Sq, ‵, raw, _⊛_, some, later, ⋆, runs, anyQ, atRet, _$_, _∵_, !, qed, by, move, keep, use1, use2, split, join}
-use types.Kit.{pick, rewrite, fjoin, suffices, frame, await, done}
+use types.Kit.{Given, Sq, ‵, raw, _⊛_, some, later, ⋆, runs, anyQ, atRet, _$_, _∵_, !, qed, by, move, keep, use1, use2, split}
+use types.Kit.{join, pick, rewrite, fjoin, suffices, frame, await, done}
 use types.Tokens.{lft-new, lft-end, lent-back}
 use types.Run.{look, init, forget, stop, from, load, addr, bin, no-more, and-then, assigns, leaves-loop, Below, land, returns}
 use types.Run.{free1, free0, exec}
@@ -37,6 +37,9 @@ use denote.Triple.Clauses.{lasts, ensured, closing}
 use denote.Triple.Call.{calls-at}
 use denote.Triple.Spec.{tripleOf}
 use denote.Triple.Walked.{says, Stays, stay-none, stay-none-slice, walkOf, ends-at}
+use Rattle.records.specs.Flattened.{flattened}
+use Rattle.records.specs.Steps.{OfFront}
+use Rattle.records.proofs.Answered.{answered}
 use Rattle.records.proofs.Layer.Form.{Form, rowOf, ended, clauses, front-ended, front-clauses, buffer-ty, turn, rest}
 use Rattle.records.proofs.Layer.Array.{Elem, Buffer, part-room}
 use Rattle.records.proofs.Layer.State.{Call, Locals, Head, Nearer, En, At, lent, n, section, section-val}
@@ -60,7 +63,7 @@ module _ {M : Type 1} (𝓤 : URA M) (H : Heap 𝓤) (A : Atoms 𝓤) (W : Given
   abbrev pub Post : Val → SProp 𝓤
   Post = walkOf 𝓤 H A (ended F) (stayed F) (clauses F 𝓤) .post (((c .κ, tt), (c .q, tt), tt, args F c, vals F c), tt)
 
-  exits : (r : F .answer .Denot) (w : Val) → F .Of (c .xs) (c .x) r
+  exits : (r : F .answer .Denot) (w : Val) → F .Promise (c .x) (flattened (c .xs)) r
       → ent 𝓤 (⋆ 𝓤 H A (
       ‵ (flft (c .κ) (c .q)) ∷ ‵ (ShrSlice (named 0) (c .κ) Elem .own (section c) (section-val c ∷ []))
       ∷ ‵ (rowOf (F .answer) .own r (w ∷ [])) ∷ [])) (Post w)
@@ -89,7 +92,8 @@ module _ {M : Type 1} (𝓤 : URA M) (H : Heap 𝓤) (A : Atoms 𝓤) (W : Given
     )
 
     goes-front : (α : ℕ) (δ : GName) (l : List Float)
-        → ent 𝓤 (sep 𝓤 (A .lft (α ∷ []) fullShare) (sem 𝓤 H A (ShrRef (named 0) (α ∷ []) Buffer .own (lent L l δ) (vptr (L .l₃) 0 ∷ []))))
+        → ent 𝓤
+        (sep 𝓤 (A .lft (α ∷ []) fullShare) (sem 𝓤 H A (ShrRef (named 0) (α ∷ []) Buffer .own (lent L l δ) (vptr (L .l₃) 0 ∷ []))))
         (Front F 𝓤 H A .pre (to-front α δ l))
     goes-front α δ l =
         qed W (‵ (flft (α ∷ []) fullShare) ∷ ‵ (ShrRef (named 0) (α ∷ []) Buffer .own (lent L l δ) (vptr (L .l₃) 0 ∷ [])) ∷ []) ∵
@@ -100,10 +104,10 @@ module _ {M : Type 1} (𝓤 : URA M) (H : Heap 𝓤) (A : Atoms 𝓤) (W : Given
 
     front-says : (α : ℕ) (δ : GName) (l : List Float) (r : F .answer .Denot)
         → ent 𝓤 (ensured 𝓤 H A (front-ended F) (front-clauses F 𝓤) (α ∷ [], tt) (lent L l δ, (n c, (c .x, tt))) tt r)
-        (fact 𝓤 (F .OfFront l (n c) (c .x) r))
+        (fact 𝓤 (OfFront (F .Promise (c .x)) (F .refusal) l (n c) r))
     front-says α δ l r =
         exE 𝓤 _ (λ ws. snd∗ 𝓤 (sem 𝓤 H A (lasts (front-ended F) (α ∷ [], tt) (lent L l δ, (n c, (c .x, tt))) ws))
-        (fact 𝓤 (F .OfFront l (n c) (c .x) r)))
+        (fact 𝓤 (OfFront (F .Promise (c .x)) (F .refusal) l (n c) r)))
 
     module _ (𝓣 : Tables 𝓤 H) (fm : FmC 𝓤 H (W .laws) (𝓣 .C)) (known-front : Triple 𝓤 (𝓣 .C (F .front)) (Front F 𝓤 H A)) where
       -- what holds after a turn that leaves the loop
@@ -118,8 +122,8 @@ module _ {M : Type 1} (𝓤 : URA M) (H : Heap 𝓤) (A : Atoms 𝓤) (W : Given
       unfolding afterTurn
       last s h e =
           let l = s .buffer in
-          assigns ! (bin ! (load ! (from ! (stop !)) (look ! 1 refl)) (load ! (from ! (stop !)) (look ! 8 refl)) tt) (from ! (stop !))
-          (init ! 2 refl (tt, tt)) $
+          assigns ! (bin ! (load ! (from ! (stop !)) (look ! 1 refl)) (load ! (from ! (stop !)) (look ! 8 refl)) tt)
+          (from ! (stop !)) (init ! 2 refl (tt, tt)) $
           rewrite ! 2 (λ (t : Bool). ‵ (fat fullShare tyBool (L .l₇) 0 (vbool t))) e refl $
           leaves-loop ! (load ! (from ! (stop !)) (look ! 2 refl)) $
           exec ! (𝓣 .C) (𝓣 .Λ) (En 𝓤 H F c L) (rest F) (atRet (En 𝓤 H F c L) Post) $
@@ -131,13 +135,13 @@ module _ {M : Type 1} (𝓤 : URA M) (H : Heap 𝓤) (A : Atoms 𝓤) (W : Given
           (lends-shr 𝓤 H A W Buffer (named 0) (α ∷ []) fullShare l (L .l₃) 0) $ await ! tt $ pick ! (λ δ. split ! $
           move ! (2 ∷ 0 ∷ []) $ use2 W (raw (Front F 𝓤 H A .pre (to-front α δ l))) (goes-front α δ l) $
           calls-at ! fm (Front F 𝓤 H A) known-front (to-front α δ l) (and-then ! (load ! (from ! (stop !)) (look ! 8 refl))
-          (and-then ! (load ! (from ! (stop !)) (look ! 9 refl)) (and-then ! (load ! (from ! (stop !)) (look ! 10 refl)) (no-more !))))
-          (λ w. use1 W (later (some (λ (r : F .answer .Denot).
+          (and-then ! (load ! (from ! (stop !)) (look ! 9 refl)) (and-then ! (load ! (from ! (stop !)) (look ! 10 refl))
+          (no-more !)))) (λ w. use1 W (later (some (λ (r : F .answer .Denot).
           ((‵ (flft (α ∷ []) fullShare) ⊛ ‵ ftrue) ⊛ ‵ (rowOf (F .answer) .own r (w ∷ [])))
           ⊛ raw (ensured 𝓤 H A (front-ended F) (front-clauses F 𝓤) (α ∷ [], tt) (lent L l δ, (n c, (c .x, tt))) tt r))))
           (id⊢ 𝓤 _) $ await ! tt $ pick ! (λ r. split ! $ move ! (1 ∷ []) $
-          use1 W (raw (fact 𝓤 (F .OfFront l (n c) (c .x) r))) (front-says α δ l r) $
-          heard ! (F .OfFront l (n c) (c .x) r) (λ said. split ! $ split ! $
+          use1 W (raw (fact 𝓤 (OfFront (F .Promise (c .x)) (F .refusal) l (n c) r))) (front-says α δ l r) $
+          heard ! (OfFront (F .Promise (c .x)) (F .refusal) l (n c) r) (λ said. split ! $ split ! $
           -- [the token of α; true; what the answer owns; the lender's part; the rest]: the array comes back
           lft-end ! tt $ move ! (0 ∷ 3 ∷ []) $ lent-back ! tt $ move ! (2 ∷ []) $
           peeks ! (rowOf (F .answer)) (Is (rowOf (F .answer))) (shows 𝓤 H A (rowOf (F .answer))) r (w ∷ []) (λ is.
@@ -152,4 +156,5 @@ module _ {M : Type 1} (𝓤 : URA M) (H : Heap 𝓤) (A : Atoms 𝓤) (W : Given
           free1 ! $ free1 ! $ free0 ! $
           -- [what the answer owns; true; the token; the fractured borrow; what is recorded of the section; its fact]
           move ! (4 ∷ 3 ∷ []) $ fjoin ! $ move ! (4 ∷ 0 ∷ []) $ fjoin ! $ keep ! (3 ∷ 0 ∷ 1 ∷ []) $
-          by ! (exits r w (F .ends (c .xs) (s .i) l (s .ok) h (c .x) r said))))))))
+          by ! (exits r w
+          (answered (c .xs) (s .i) l (s .ok) h (F .Promise (c .x)) (F .refusal) r (λ k. F .too-many (c .xs) k (c .x)) said))))))))

@@ -1,6 +1,6 @@
--- What a query over `&[Vertex]` is, whatever its body and its answer: their types, the covered function that asks on the array's front,
--- what both promise; and its code and its contract, which the checked function has by computation.
-use Prim.Native.Nat.{ℕ, _≤_}
+-- What a query over `&[Vertex]` is, whatever its body and its answer: their types, the covered function that asks on the array's
+-- front, what is promised; and its code and its contract, which the function itself has by computation.
+use Prim.Native.Nat.{ℕ, _<_}
 use mathlib.Core.List.{List, [], _∷_}
 use lib.Dec.{T as Holds}
 use lib.ListN.{length}
@@ -22,15 +22,16 @@ use denote.Memory.{pointee}
 use denote.Builtin.{usize, f64, RefOf, SliceRefOf, ArrayOf}
 use denote.Exit.{unchanged, yes}
 use denote.Ref.{now}
-use denote.Signature.{Signature, plain}
+use denote.Signature.{plain}
 use denote.Slice.{sliceTy}
 use denote.Triple.Clauses.{Ended, Clauses}
 use Rattle.section.specs.declared.shapes.Vertex.{Vertex}
 use Rattle.section.proofs.shapes.Vertex as vertex
 use Rattle.section.proofs.shapes.Vertex.Laws as vertex-laws
-use Rattle.records.proofs.Filled.{Filled}
-use Rattle.records.proofs.blank.Symbol as blank
-use Rattle.records.proofs.put.Symbol as put
+use Rattle.records.specs.Flattened.{flattened}
+use Rattle.records.specs.Steps.{OfFront}
+use Rattle.records.proofs.copying.blank.Symbol as blank
+use Rattle.records.proofs.copying.put.Symbol as put
 
 -- a type of values that hold no reference
 pub record Value : Type 2 where
@@ -40,6 +41,16 @@ pub record Value : Type 2 where
   pub reaches : List (Written × List Ty)
   pub own : Denot → List Val → Fml
   pub coded : Coded Denot
+
+abbrev pub valueOf : RattleType → Ty → Value
+valueOf T ty = record {
+  Denot = T .Denot;
+  ty = ty;
+  written = T .written;
+  reaches = T .reaches;
+  own = T .own;
+  coded = T .coded;
+}
 
 abbrev pub rowOf : Value → RattleType
 rowOf X = record {
@@ -62,13 +73,12 @@ pub record Form : Type 2 where
   pub answer : Value
   pub answer-typed : {M : Type 1} (𝓤 : URA M) (H : Heap 𝓤) (A : Atoms 𝓤) → Given 𝓤 H A → (r : answer .Denot) (w : Val)
       → Is (rowOf answer) r (w ∷ []) → Holds (hasTy (answer .ty) w) × WT w
-  -- the function that asks on the front, and what it promises of the first n vertices of an array
+  -- the function that asks on the front
   pub front : Name
-  pub OfFront : List Float → ℕ → body .Denot → answer .Denot → Type 0
-  -- the contract, and that the end of the loop gives it
-  pub Of : List Vertex → body .Denot → answer .Denot → Type 0
-  pub ends : (xs : List Vertex) (i : ℕ) (l : List Float) → Filled xs i l → length xs ≤ i → (x : body .Denot) (r : answer .Denot)
-      → OfFront l (length xs) x r → Of xs x r
+  -- what is promised of an answer on a section; of too many vertices it is the refusal
+  pub Promise : body .Denot → List Float → answer .Denot → Type 0
+  pub refusal : answer .Denot
+  pub too-many : (xs : List Vertex) → 256 < length xs → (x : body .Denot) → Promise x (flattened xs) refusal
 
 -- ---- the types of the locals
 abbrev pub buffer-ty : Ty
@@ -116,14 +126,14 @@ module _ (F : Form) where
     front-clauses κs args = record {
       ghost = Unit {0};
       requires = λ g. emp 𝓤;
-      ensures = λ g r end. fact 𝓤 (F .OfFront (now (args .0)) (args .1 .0) (args .1 .1 .0) r);
+      ensures = λ g r end. fact 𝓤 (OfFront (F .Promise (args .1 .1 .0)) (F .refusal) (now (args .0)) (args .1 .0) r);
     }
 
     abbrev pub clauses : Clauses 𝓤 ended
     clauses κs args = record {
       ghost = Unit {0};
       requires = λ g. emp 𝓤;
-      ensures = λ g r end. fact 𝓤 (F .Of (now (args .0)) (args .1 .0) r);
+      ensures = λ g r end. fact 𝓤 (F .Promise (args .1 .0) (flattened (now (args .0))) r);
     }
 
   -- ---- the code: locals 0 the answer, 1 the section, 2 the body, 3 the array, 4 the count, 5 the index, 6 to 12 temporaries

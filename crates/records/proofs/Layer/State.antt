@@ -82,8 +82,8 @@ module _ {M : Type 1} (𝓤 : URA M) (H : Heap 𝓤) (F : Form) (c : Call F) (L 
       ∷ (buffer-ty, L .l₆) ∷ (tyBool, L .l₇) ∷ (tyRef erased mut buffer-ty, L .l₈) ∷ (word, L .l₉) ∷ (tyPtr, L .l₁₀)
       ∷ (vertex-ty, L .l₁₁) ∷ (tyRef erased imm buffer-ty, L .l₁₂) ∷ []
 
-  -- 0 the array; 1 i; 2 to 7 room for the temporaries 7 to 12; 8 n; 9 the body; 10 the section; 11 room for the answer; 12 the token,
-  -- 13 to 15 what the section owns; 16 to 28 that each local dies; 29 room for the temporary 6
+  -- 0 the array; 1 i; 2 to 7 room for the temporaries 7 to 12; 8 n; 9 the body; 10 the section; 11 room for the answer;
+  -- 12 the token, 13 to 15 what the section owns; 16 to 28 that each local dies; 29 room for the temporary 6
   abbrev pub At : Head c → List (Item 𝓤)
   At s =
       ‵ (partAt Buffer fullShare (s .buffer) (L .l₃) 0) ∷ ‵ (fat fullShare word (L .l₅) 0 (vint w64 (s .i)))

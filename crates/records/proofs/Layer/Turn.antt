@@ -1,5 +1,5 @@
--- A turn that copies a vertex. The slice is looked into for vertex i and shut again, the array is lent for a lifetime that begins here
--- to the covered `put`, and comes back with the vertex in its two places.
+-- A turn that copies a vertex. The slice is looked into for vertex i and shut again, the array is lent to the covered `put` for a
+-- lifetime that begins here, and comes back with the vertex in its two places.
 use Prim.Native.Nat.{ℕ, _*_, _<_, _^_}
 use native.Mathlib.Omega.{arith}
 use mathlib.Core.Bool.{Bool, true}
@@ -23,8 +23,8 @@ use types.Kit.{Given, Sq, ‵, raw, _⊛_, some, later, runs, anyQ, _$_, _∵_, 
 use types.Kit.{rewrite, fsplit, fjoin, frame, await, done}
 use types.Tokens.{lft-new, lft-end}
 use types.Part.{whole, sub, look-in}
-use types.Run.{look, look-raw, store, init, forget, stop, hop, fld, from, load, lit, of-opd, addr, bin, no-more, and-then, assigns}
-use types.Run.{stays, again, Below, land-last}
+use types.Run.{look, look-raw, store, init, forget, stop, hop, fld, from, load, lit, of-opd, addr, bin, no-more, and-then}
+use types.Run.{assigns, stays, again, Below, land-last}
 use types.SemTy.{Body}
 use sound.WpLaws.{FmC}
 use denote.Laws.{Is, shows}
@@ -41,14 +41,15 @@ use denote.Triple.Call.{calls-at-last}
 use denote.Triple.Spec.{tripleOf}
 use Rattle.section.specs.declared.shapes.Vertex.{Vertex}
 use Rattle.records.specs.Steps.{stored, next}
-use Rattle.records.proofs.put as put
-use Rattle.records.proofs.put.Symbol.{name as put-name}
+use Rattle.records.proofs.copying.put as put
+use Rattle.records.proofs.copying.put.Symbol.{name as put-name}
 use Rattle.records.proofs.Filled.{filled-next, nearer}
 use Rattle.records.proofs.Layer.Form.{Form, word, turn}
 use Rattle.records.proofs.Layer.Array.{Elem, Buffer, past, elem-vals, elem-tells, elem-copy, elem-makes, elem-typed}
 use Rattle.records.proofs.Layer.State.{Call, Locals, Head, Nearer, En, At, lent, n}
 
-module _ {M : Type 1} (𝓤 : URA M) (H : Heap 𝓤) (A : Atoms 𝓤) (W : Given 𝓤 H A) (memo : Memory → SProp 𝓤) (run : Routine → Fun 𝓤) where
+module _ {M : Type 1} (𝓤 : URA M) (H : Heap 𝓤) (A : Atoms 𝓤) (W : Given 𝓤 H A) (memo : Memory → SProp 𝓤)
+    (run : Routine → Fun 𝓤) where
   abbrev pub Put : Contract 𝓤
   Put = tripleOf 𝓤 H A put.signature (put.spec 𝓤 H A memo run)
 
@@ -70,7 +71,8 @@ module _ {M : Type 1} (𝓤 : URA M) (H : Heap 𝓤) (A : Atoms 𝓤) (W : Given
     )
 
     goes-put : (α : ℕ) (δ : GName) (l : List Float) (i : ℕ) (v : Vertex) → i < 2 ^ 64 → Is Elem v (elem-vals v)
-        → ent 𝓤 (sep 𝓤 (A .lft (α ∷ []) fullShare) (sem 𝓤 H A (MutRef (named 0) (α ∷ []) Buffer .own (lent L l δ) (vptr (L .l₃) 0 ∷ []))))
+        → ent 𝓤
+        (sep 𝓤 (A .lft (α ∷ []) fullShare) (sem 𝓤 H A (MutRef (named 0) (α ∷ []) Buffer .own (lent L l δ) (vptr (L .l₃) 0 ∷ []))))
         (Put .pre (to-put α δ l i v))
     goes-put α δ l i v gi is =
         qed W (‵ (flft (α ∷ []) fullShare) ∷ ‵ (MutRef (named 0) (α ∷ []) Buffer .own (lent L l δ) (vptr (L .l₃) 0 ∷ [])) ∷ []) ∵
@@ -80,7 +82,8 @@ module _ {M : Type 1} (𝓤 : URA M) (H : Heap 𝓤) (A : Atoms 𝓤) (W : Given
         owned ! usize (Is usize) (uint-makes 𝓤 H A W w64) i _ (refl, gi) $ fjoin ! $
         move ! (2 ∷ 0 ∷ []) $ fjoin ! $ move ! (1 ∷ 0 ∷ []) $ join ! $ frame ! $ done !
 
-    module _ (𝓣 : Tables 𝓤 H) (fm : FmC 𝓤 H (W .laws) (𝓣 .C)) (known-put : Triple 𝓤 (𝓣 .C put-name) Put) (Left : Out → SProp 𝓤) where
+    module _ (𝓣 : Tables 𝓤 H) (fm : FmC 𝓤 H (W .laws) (𝓣 .C)) (known-put : Triple 𝓤 (𝓣 .C put-name) Put)
+        (Left : Out → SProp 𝓤) where
       pub more : (s : Head c) → s .i < n c → ltb (s .i) (n c) ≡ true
           → Sq W (At 𝓤 H F c L s) (runs (𝓣 .C) (𝓣 .Λ) (En 𝓤 H F c L) (turn F)
           (anyQ (afterTurn 𝓤 H (Below 𝓤 H A (Nearer c) (At 𝓤 H F c L) s) Left)))
@@ -91,8 +94,8 @@ module _ {M : Type 1} (𝓤 : URA M) (H : Heap 𝓤) (A : Atoms 𝓤) (W : Given
           let v = getD (c .xs) i past in
           let gi : i < 2 ^ 64 = omega (arith, c .room .0) in
           let gm : i * 16 < 2 ^ 64 = omega (arith, c .room .1) in
-          assigns ! (bin ! (load ! (from ! (stop !)) (look ! 1 refl)) (load ! (from ! (stop !)) (look ! 8 refl)) tt) (from ! (stop !))
-          (init ! 2 refl (tt, tt)) $
+          assigns ! (bin ! (load ! (from ! (stop !)) (look ! 1 refl)) (load ! (from ! (stop !)) (look ! 8 refl)) tt)
+          (from ! (stop !)) (init ! 2 refl (tt, tt)) $
           rewrite ! 2 (λ (t : Bool). ‵ (fat fullShare tyBool (L .l₇) 0 (vbool t))) e refl $
           stays ! (load ! (from ! (stop !)) (look ! 2 refl)) $
           assigns ! (addr ! (from ! (stop !))) (from ! (stop !)) (init ! 3 refl (tt, tt)) $
@@ -111,7 +114,8 @@ module _ {M : Type 1} (𝓤 : URA M) (H : Heap 𝓤) (A : Atoms 𝓤) (W : Given
           -- [the token; the fractured borrow; the array; i; 7 to 12; n; the body; the section; room for the answer; ..]
           lft-new ! tt (λ α. move ! (3 ∷ []) $
           use1 W (later (some (λ (δ : GName).
-          ‵ (MutRef (named 0) (α ∷ []) Buffer .own (lent L l δ) (vptr (L .l₃) 0 ∷ [])) ⊛ ‵ (flent (α ∷ []) (Body (mem Buffer) (L .l₃) 0 δ)))))
+          ‵ (MutRef (named 0) (α ∷ []) Buffer .own (lent L l δ) (vptr (L .l₃) 0 ∷ []))
+          ⊛ ‵ (flent (α ∷ []) (Body (mem Buffer) (L .l₃) 0 δ)))))
           (lends-ref 𝓤 H A W Buffer (named 0) (α ∷ []) l (L .l₃) 0) $ await ! tt $ pick ! (λ δ. split ! $
           move ! (2 ∷ 0 ∷ []) $ use2 W (raw (Put .pre (to-put α δ l i v))) (goes-put α δ l i v gi g) $
           calls-at-last ! fm Put known-put (to-put α δ l i v) (and-then ! (load ! (from ! (stop !)) (look ! 6 refl))
@@ -125,8 +129,9 @@ module _ {M : Type 1} (𝓤 : URA M) (H : Heap 𝓤) (A : Atoms 𝓤) (W : Given
           (id⊢ 𝓤 _) $ pick ! (λ ws. split ! $ move ! (1 ∷ []) $
           heard ! ((r ≡ next i (n c)) × (ws .0 ≡ stored i v l)) (λ said. fsplit ! $
           rewrite ! 0 (λ (k : List Float). ‵ (fres δ (Buffer .coded .code k))) (said .1) refl $
-          -- [the array's last value; ..; the token of α, and the next index; the lender's part; the rest]: the array comes back
-          move ! (2 ∷ []) $ split ! $ split ! $ move ! (2 ∷ []) $ peeks ! usize (Is usize) (shows 𝓤 H A usize) r (w ∷ []) (λ is.
+          -- [the array's last value; ..; the token of α, and the next index; the lender's part; ..]: the array comes back
+          move ! (2 ∷ []) $ split ! $ split ! $ move ! (2 ∷ []) $
+          peeks ! usize (Is usize) (shows 𝓤 H A usize) r (w ∷ []) (λ is.
           move ! (1 ∷ []) $ lft-end ! tt $ move ! (0 ∷ 5 ∷ 3 ∷ []) $
           use3 W (later (‵ (partAt Buffer fullShare (stored i v l) (L .l₃) 0)))
           (ref-back 𝓤 H A W Buffer (α ∷ []) δ (stored i v l) (L .l₃) 0) $ await ! tt $

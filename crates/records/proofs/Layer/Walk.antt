@@ -1,5 +1,5 @@
--- The whole function: the array is made by the covered `blank`, the loop turns until the index has reached the count, and the contract
--- holds at the end. So every form meets its contract.
+-- The whole function: the array is made by the covered `blank`, the loop turns until the index has reached the count, and the
+-- contract holds at the end. So every form meets its contract.
 use mathlib.Core.Bool.{Bool, true, false}
 use mathlib.Core.List.{List, [], _∷_}
 use mathlib.Core.Path.{_≡_, refl}
@@ -16,8 +16,8 @@ use prog.Routine.{Routine}
 use prog.Wp.{Heap, Tables, WpFn, afterTurn}
 use ghost.Atoms.{Atoms, sem}
 use contract.Monad.{Fun}
-use types.Kit.{Given, Sq, ‵, raw, _⊛_, some, later, runs, anyQ, atRet, _$_, _∵_, !, qed, move, keep, use1, use2, split, join, pick}
-use types.Kit.{fsplit, fsplit3, frame, await, done}
+use types.Kit.{Given, Sq, ‵, raw, _⊛_, some, later, runs, anyQ, atRet, _$_, _∵_, !, qed, move, keep, use1, use2, split, join}
+use types.Kit.{pick, fsplit, fsplit3, frame, await, done}
 use types.Part.{whole, sub, look-in}
 use types.Run.{look, init, forget, stop, fld, from, load, lit, of-opd, no-more, assigns, first, blocks, loops, Below, land, enter}
 use types.Run.{alloc1, alloc0, params1, pass1, pass0}
@@ -35,9 +35,9 @@ use denote.Triple.Clauses.{ensured, closing}
 use denote.Triple.Call.{calls-at}
 use denote.Triple.Spec.{Meets, tripleOf}
 use denote.Triple.Walked.{goes-none, goes-none-slice, Walks, walked, walk-meets}
-use Rattle.records.proofs.blank as blank
-use Rattle.records.proofs.blank.Symbol.{name as blank-name}
-use Rattle.records.proofs.put.Symbol.{name as put-name}
+use Rattle.records.proofs.copying.blank as blank
+use Rattle.records.proofs.copying.blank.Symbol.{name as blank-name}
+use Rattle.records.proofs.copying.put.Symbol.{name as put-name}
 use Rattle.records.proofs.Filled.{filled-start}
 use Rattle.records.proofs.Layer.Form.{Form, rowOf, ended, clauses, turn, loop, function}
 use Rattle.records.proofs.Layer.Array.{Elem, Buffer, buffer-typed, part-in}
@@ -45,7 +45,8 @@ use Rattle.records.proofs.Layer.State.{Call, Locals, Head, Nearer, Near
 use Rattle.records.proofs.Layer.Turn.{Put, more}
 use Rattle.records.proofs.Layer.End.{stayed, Front, args, vals, Post, Left, last}
 
-module _ {M : Type 1} (𝓤 : URA M) (H : Heap 𝓤) (A : Atoms 𝓤) (W : Given 𝓤 H A) (memo : Memory → SProp 𝓤) (run : Routine → Fun 𝓤) where
+module _ {M : Type 1} (𝓤 : URA M) (H : Heap 𝓤) (A : Atoms 𝓤) (W : Given 𝓤 H A) (memo : Memory → SProp 𝓤)
+    (run : Routine → Fun 𝓤) where
   abbrev pub Blank : Contract 𝓤
   Blank = tripleOf 𝓤 H A blank.signature (blank.spec 𝓤 H A memo run)
 
@@ -56,7 +57,8 @@ module _ {M : Type 1} (𝓤 : URA M) (H : Heap 𝓤) (A : Atoms 𝓤) (W : Given
   goes-blank = qed W (‵ ftrue ∷ ‵ ftrue ∷ []) ∵ join ! $ frame ! $ done !
 
   module _ (F : Form) (𝓣 : Tables 𝓤 H) (known-blank : Triple 𝓤 (𝓣 .C blank-name) Blank)
-      (known-put : Triple 𝓤 (𝓣 .C put-name) (Put 𝓤 H A W memo run)) (known-front : Triple 𝓤 (𝓣 .C (F .front)) (Front F 𝓤 H A)) where
+      (known-put : Triple 𝓤 (𝓣 .C put-name) (Put 𝓤 H A W memo run))
+      (known-front : Triple 𝓤 (𝓣 .C (F .front)) (Front F 𝓤 H A)) where
     abbrev fm : FmC 𝓤 H (W .laws) (𝓣 .C)
     fm = fmOf 𝓤 H (W .laws) 𝓣
 
@@ -95,8 +97,7 @@ module _ {M : Type 1} (𝓤 : URA M) (H : Heap 𝓤) (A : Atoms 𝓤) (W : Given
           (‵ ftrue ⊛ ‵ (Buffer .own r (w ∷ []))) ⊛ raw (ensured 𝓤 H A blank.ended (blank.clauses 𝓤 H A memo run) tt tt tt r))))
           (id⊢ 𝓤 _) $ await ! tt $ pick ! (λ r. split ! $ split ! $
           move ! (1 ∷ []) $ peeks ! Buffer (Is Buffer) (shows 𝓤 H A Buffer) r (w ∷ []) (λ is.
-          -- [what the array owns; true; that the blank call is done; then each local from 12 down to 0 with that it dies; the token;
-          -- what the section and the body own]
+          -- [what the array owns; true; ..; each local from 12 down to 0, with that it dies; the token; what section and body own]
           land ! (from ! (stop !)) (init ! 15 refl (buffer-typed 𝓤 H A W r w is)) $
           assigns ! (of-opd ! (load ! (from ! (stop !)) (look ! 15 refl))) (from ! (stop !))
           (init ! 21 refl (buffer-typed 𝓤 H A W r w is)) $

@@ -1,10 +1,10 @@
--- `records::query_front` meets its contract: the core's own promise, on the front. Assumes nothing.
+-- `records::queries::cylinder_front` meets its contract: the core's own promise, on the front. Assumes nothing.
 use native.Mathlib.Omega.{arith}
 use mathlib.Core.Path.{refl, sym}
 use lib.Seq.{length-take-le}
 use borrow.Author.Needs.{needs}
-use Rattle.records.proofs.query_front.Statement.{statement}
-use Rattle.records.proofs.query_front.Tie as tie
+use Rattle.records.proofs.queries.cylinder_front.Statement.{statement}
+use Rattle.records.proofs.queries.cylinder_front.Tie as tie
 
 returns : tie.Need-returns
 returns c = record { front = λ h. absurd (omega arith); many = λ h. refl }
@@ -24,8 +24,8 @@ returns-2 c = record {
   many = λ h. absurd (omega arith);
 }
 
-pub query-front-spec : {M : Type 1} → statement M
-query-front-spec =
+pub cylinder-front-spec : {M : Type 1} → statement M
+cylinder-front-spec =
     tie.close
     (tie.spec
     returns

@@ -1,11 +1,9 @@
--- `records::put` meets its contract. Assumes nothing.
-use lib.ListN.{length-set}
-use native.Mathlib.Omega.{arith}
+-- `records::copying::put` meets its contract. Assumes nothing.
 use borrow.Author.Needs.{needs}
 use borrow.Author.Tests.{le-ltb, lt-ltb}
 use Rattle.records.specs.Steps.{stored, next}
-use Rattle.records.proofs.put.Statement.{statement}
-use Rattle.records.proofs.put.Tie as tie
+use Rattle.records.proofs.copying.put.Statement.{statement}
+use Rattle.records.proofs.copying.put.Tie as tie
 
 mul-items : tie.Need-mul-items
 mul-items c = search needs
