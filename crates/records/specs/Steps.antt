@@ -17,6 +17,13 @@ use Rattle.walk.specs.Cover.{OfHit, Promised}
 use Rattle.walk.specs.Cylinders.{cylinderAnswer}
 use Rattle.walk.specs.declared.shapes.Cylinder.{Cylinder}
 use Rattle.walk.specs.declared.shapes.CylinderAnswer.{CylinderAnswer}
+use Rattle.records.specs.Replies.{pointOf, sphereOf, boxOf, cylinderOf, reply, cylinderReply}
+use Rattle.records.specs.declared.replies.Ball.{Ball}
+use Rattle.records.specs.declared.replies.Bar.{Bar}
+use Rattle.records.specs.declared.replies.Bounds.{Bounds}
+use Rattle.records.specs.declared.replies.CylinderReply.{CylinderReply}
+use Rattle.records.specs.declared.replies.Place.{Place}
+use Rattle.records.specs.declared.replies.Reply.{Reply}
 
 -- vertex i in its two places, where there is room for it
 unfoldable pub stored : ℕ → Vertex → List Float → List Float
@@ -38,6 +45,19 @@ OfBox x s r = (r ≡ boxAnswer s x) × Of Bounded r
 
 abbrev pub OfCylinder : Cylinder → List Float → CylinderAnswer → Type 0
 OfCylinder c s r = (r ≡ cylinderAnswer s c) × OfHit (Promised s c) r
+
+-- the same of the C interface's replies
+abbrev pub OfPlace : Place → List Float → Reply → Type 0
+OfPlace x s r = r ≡ reply (pointAnswer s (pointOf x))
+
+abbrev pub OfBall : Ball → List Float → Reply → Type 0
+OfBall x s r = r ≡ reply (sphereAnswer s (sphereOf x))
+
+abbrev pub OfBounds : Bounds → List Float → Reply → Type 0
+OfBounds x s r = r ≡ reply (boxAnswer s (boxOf x))
+
+abbrev pub OfBar : Bar → List Float → CylinderReply → Type 0
+OfBar x s r = r ≡ cylinderReply (cylinderAnswer s (cylinderOf x))
 
 -- r keeps a promise on the first n vertices of l, and is the given refusal where there are more than 256
 pub record OfFront {R : Type 0} (P : List Float → R → Type 0) (refusal : R) (l : List Float) (n : ℕ) (r : R) : Type 0 where

@@ -20,7 +20,7 @@ use section::Vertex;
 use walk::Cylinder;
 use walk::CylinderAnswer;
 
-fn point_front(items: &[f64; 512], n: usize, point: Vec3) -> Answer
+pub fn point_front(items: &[f64; 512], n: usize, point: Vec3) -> Answer
     ensures { λ r. ⌜ OfFront (OfPoint point) (answers.Refused 3) (now (items .entry)) n r ⌝ }
 {
     if n > 256 {
@@ -44,7 +44,7 @@ pub fn signed_distance_of(section: &[Vertex], point: Vec3) -> Answer
     point_front(&items, n, point)
 }
 
-fn sphere_front(items: &[f64; 512], n: usize, sphere: Sphere) -> Answer
+pub fn sphere_front(items: &[f64; 512], n: usize, sphere: Sphere) -> Answer
     ensures { λ r. ⌜ OfFront (OfSphere sphere) (answers.Refused 3) (now (items .entry)) n r ⌝ }
 {
     if n > 256 {
@@ -68,7 +68,7 @@ pub fn query_sphere_of(section: &[Vertex], sphere: Sphere) -> Answer
     sphere_front(&items, n, sphere)
 }
 
-fn box_front(items: &[f64; 512], n: usize, bounds: Aabb) -> Answer
+pub fn box_front(items: &[f64; 512], n: usize, bounds: Aabb) -> Answer
     ensures { λ r. ⌜ OfFront (OfBox bounds) (answers.Refused 3) (now (items .entry)) n r ⌝ }
 {
     if n > 256 {
@@ -92,7 +92,7 @@ pub fn aabb_polygon_distance_of(section: &[Vertex], bounds: Aabb) -> Answer
     box_front(&items, n, bounds)
 }
 
-fn cylinder_front(items: &[f64; 512], n: usize, cylinder: Cylinder) -> CylinderAnswer
+pub fn cylinder_front(items: &[f64; 512], n: usize, cylinder: Cylinder) -> CylinderAnswer
     ensures { λ r. ⌜ OfFront (OfCylinder cylinder) (cylinder-answers.Refused 3) (now (items .entry)) n r ⌝ }
 {
     if n > 256 {

@@ -1,6 +1,8 @@
 // The records of the section: vertices, boxes, spheres, hits, and the answers of a call.
 use arith::Vec3;
 
+// As C lays it out: a slice of vertices can be lent from there.
+#[repr(C)]
 pub struct Vertex {
     pub z: f64,
     pub r: f64,
