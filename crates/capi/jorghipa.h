@@ -15,6 +15,8 @@
  *    5  a magnitude over the limit           10  z1 < z0 or r1 < r0
  *                                            11  cylinder neither along the spindle nor across it
  *
+ * jorghipa_records.h has the queries of a point, sphere, box and cylinder over an array of vertices.
+ *
  * What the caller owes, and nothing checks: every pointer is valid for its count, aligned, and not null even at
  * count 0; and no place that is lent for writing overlaps any other place that is lent to the same call.
  */

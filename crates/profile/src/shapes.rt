@@ -2,6 +2,8 @@
 // answer of a builder.
 use arith::Vec3;
 
+// As C lays it out: a slice of vertices can be lent from there.
+#[repr(C)]
 pub struct Vertex {
     pub z: f64,
     pub r: f64,

@@ -5,6 +5,17 @@ use crate::query::{Answer, Kind, Query};
 use jorghipa::{Hit, Point, Rectangle, Refusal, Sphere, raw};
 
 pub fn answer(query: &Query) -> Answer {
+    let answer = flat(query);
+    #[cfg(feature = "records")]
+    if let Some(over_records) = records::answer(query)
+        && !records::same_bits(&answer, &over_records)
+    {
+        return Answer::Split(over_records.line());
+    }
+    answer
+}
+
+fn flat(query: &Query) -> Answer {
     let list = |i: usize| query.lists[i].as_slice();
     match query.kind {
         Kind::Sqrt => Answer::Values(vec![jorghipa::sqrt(query.numbers[0])]),
@@ -91,17 +102,14 @@ fn count_unchanged(query: &Query) -> bool {
 #[cfg(feature = "cylinders")]
 mod cylinders {
     use super::*;
-    use jorghipa::Cylinder;
+    use jorghipa::{Cylinder, CylinderHit};
 
     pub fn answer(query: &Query) -> Answer {
         let list = |i: usize| query.lists[i].as_slice();
         let clearance = query.numbers.last().copied().unwrap_or(0.0);
         match query.kind {
             Kind::Cylinder => match jorghipa::cylinder(list(0), cylinder(query)) {
-                Ok(walked) => {
-                    let hit = [walked.hit.distance, walked.hit.witness_z, walked.hit.witness_radius];
-                    Answer::Walked(hit, [walked.boxes, walked.waiting, u32::from(walked.cut)])
-                }
+                Ok(hit) => walked(hit),
                 Err(number) => refused(number, places_unchanged(query)),
             },
             Kind::VerdictSphere => verdict(query, jorghipa::verdict_sphere(list(0), sphere(query), clearance)),
@@ -111,7 +119,12 @@ mod cylinders {
         }
     }
 
-    fn cylinder(query: &Query) -> Cylinder {
+    pub fn walked(walked: CylinderHit) -> Answer {
+        let hit = [walked.hit.distance, walked.hit.witness_z, walked.hit.witness_radius];
+        Answer::Walked(hit, [walked.boxes, walked.waiting, u32::from(walked.cut)])
+    }
+
+    pub fn cylinder(query: &Query) -> Cylinder {
         let [ax, ay, az, bx, by, bz, radius] = query.array();
         Cylinder { a: Point { x: ax, y: ay, z: az }, b: Point { x: bx, y: by, z: bz }, radius }
     }
@@ -181,5 +194,40 @@ mod cylinders {
             };
         }
         place == 77
+    }
+}
+
+/// The same queries over vertex records, which have no form for an odd count of numbers.
+#[cfg(feature = "records")]
+mod records {
+    use super::*;
+    use jorghipa::Vertex;
+
+    pub fn answer(query: &Query) -> Option<Answer> {
+        let list = query.lists.first().filter(|list| list.len() % 2 == 0)?;
+        let section: Vec<Vertex> = list.chunks_exact(2).map(|v| Vertex { z: v[0], radius: v[1] }).collect();
+        let hit = |hit: Hit| Answer::Values(vec![hit.distance, hit.witness_z, hit.witness_radius]);
+        let result = match query.kind {
+            Kind::Point => {
+                let [x, y, z] = query.array();
+                jorghipa::point_of(&section, Point { x, y, z }).map(hit)
+            }
+            Kind::Sphere => jorghipa::sphere_of(&section, sphere(query)).map(hit),
+            Kind::Box => jorghipa::rectangle_of(&section, rectangle(query)).map(hit),
+            Kind::Cylinder => jorghipa::cylinder_of(&section, cylinders::cylinder(query)).map(cylinders::walked),
+            _ => return None,
+        };
+        Some(result.unwrap_or_else(Answer::Refused))
+    }
+
+    /// Bit by bit, zeros too: both forms run the same code.
+    pub fn same_bits(flat: &Answer, records: &Answer) -> bool {
+        let bits = |values: &[f64]| values.iter().map(|x| x.to_bits()).collect::<Vec<_>>();
+        match (flat, records) {
+            (Answer::Refused(a) | Answer::Spoilt(a), Answer::Refused(b)) => a == b,
+            (Answer::Values(a), Answer::Values(b)) => bits(a) == bits(b),
+            (Answer::Walked(a, m), Answer::Walked(b, n)) => bits(a) == bits(b) && m == n,
+            _ => false,
+        }
     }
 }

@@ -132,6 +132,8 @@ pub enum Answer {
     Refused(u32),
     /// Refused, but something that was lent had changed.
     Spoilt(u32),
+    /// The form over records answers something else, its line.
+    Split(String),
     /// A root, or distance, witness z and witness radius.
     Values(Vec<f64>),
     /// How many numbers are kept, and the whole space afterwards.
@@ -185,6 +187,7 @@ impl Answer {
         match self {
             Answer::Refused(number) => format!("refused {number}"),
             Answer::Spoilt(number) => format!("refused {number}, lent places changed"),
+            Answer::Split(_) => "records answer otherwise".into(),
             Answer::Values(values) if values.len() == 3 => side(values[0]).into(),
             Answer::Values(values) if values[0].is_finite() => "finite".into(),
             Answer::Values(_) => "not finite".into(),
@@ -203,6 +206,7 @@ impl Answer {
         match self {
             Answer::Refused(number) => format!("refused {number}"),
             Answer::Spoilt(number) => format!("refused {number} (lent places changed)"),
+            Answer::Split(records) => format!("over records: {records}"),
             Answer::Values(values) => hex(values),
             Answer::Built(kept, space) => format!("{kept} {}", hex(&space[..*kept])),
             Answer::Walked(hit, [boxes, waiting, cut]) => format!("{} {boxes} {waiting} {cut}", hex(hit)),

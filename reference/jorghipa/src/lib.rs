@@ -127,3 +127,8 @@ pub fn hypot(a: f64, b: f64) -> f64 {
 mod cylinders;
 #[cfg(feature = "cylinders")]
 pub use cylinders::*;
+
+#[cfg(feature = "records")]
+mod records;
+#[cfg(feature = "records")]
+pub use records::*;

@@ -55,3 +55,79 @@ unsafe extern "C" {
         collision: *mut u32,
     ) -> u32;
 }
+
+/// The records of `crates/records/jorghipa_records.h`.
+#[cfg(feature = "records")]
+mod records {
+    #[repr(C)]
+    #[derive(Clone, Copy, Debug, PartialEq)]
+    pub struct Vertex {
+        pub z: f64,
+        pub radius: f64,
+    }
+
+    #[repr(C)]
+    pub struct Place {
+        pub x: f64,
+        pub y: f64,
+        pub z: f64,
+    }
+
+    #[repr(C)]
+    pub struct Ball {
+        pub x: f64,
+        pub y: f64,
+        pub z: f64,
+        pub radius: f64,
+    }
+
+    #[repr(C)]
+    pub struct Bounds {
+        pub z0: f64,
+        pub z1: f64,
+        pub r0: f64,
+        pub r1: f64,
+    }
+
+    #[repr(C)]
+    pub struct Bar {
+        pub ax: f64,
+        pub ay: f64,
+        pub az: f64,
+        pub bx: f64,
+        pub by: f64,
+        pub bz: f64,
+        pub radius: f64,
+    }
+
+    #[repr(C)]
+    #[derive(Debug, PartialEq)]
+    pub struct Reply {
+        pub distance: f64,
+        pub witness_z: f64,
+        pub witness_radius: f64,
+        pub number: u32,
+    }
+
+    #[repr(C)]
+    #[derive(Debug, PartialEq)]
+    pub struct CylinderReply {
+        pub distance: f64,
+        pub witness_z: f64,
+        pub witness_radius: f64,
+        pub boxes: usize,
+        pub waiting: usize,
+        pub number: u32,
+        pub cut: bool,
+    }
+
+    unsafe extern "C" {
+        pub fn jorghipa_point_of(section: *const Vertex, count: usize, place: Place) -> Reply;
+        pub fn jorghipa_sphere_of(section: *const Vertex, count: usize, ball: Ball) -> Reply;
+        pub fn jorghipa_box_of(section: *const Vertex, count: usize, bounds: Bounds) -> Reply;
+        pub fn jorghipa_cylinder_of(section: *const Vertex, count: usize, bar: Bar) -> CylinderReply;
+    }
+}
+
+#[cfg(feature = "records")]
+pub use records::*;

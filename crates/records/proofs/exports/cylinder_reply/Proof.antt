@@ -1,0 +1,27 @@
+-- `records::exports::cylinder_reply` meets its contract: the reply of the answer on the front. Assumes nothing.
+use mathlib.Core.Path.{_∙_, ap}
+use borrow.Author.Needs.{needs}
+use Rattle.walk.specs.Cylinders.{cylinderAnswer}
+use Rattle.records.specs.Replies.{cylinderOf, cylinderReply}
+use Rattle.records.specs.Steps.{OfCylinder}
+use Rattle.records.proofs.Replied.{replied}
+use Rattle.records.proofs.exports.cylinder_reply.Statement.{statement}
+use Rattle.records.proofs.exports.cylinder_reply.Tie as tie
+
+cylinder-of-requires : tie.Need-cylinder-of-requires
+cylinder-of-requires c κs = search needs
+
+cylinder-front-requires : tie.Need-cylinder-front-requires
+cylinder-front-requires c κs = search needs
+
+cylinder-reply-of-requires : tie.Need-cylinder-reply-of-requires
+cylinder-reply-of-requires c κs = search needs
+
+returns : tie.Need-returns
+returns c =
+    replied cylinderReply (λ s. cylinderAnswer s (cylinderOf (c .before .before .before .args .bar))) (OfCylinder _)
+    (λ s a h. h .0 ∙ ap (cylinderAnswer s) (c .before .before .cylinder-of .ensures)) _ _ _ _ _
+    (c .before .cylinder-front .ensures) (c .cylinder-reply-of .ensures)
+
+pub cylinder-reply-spec : {M : Type 1} → statement M
+cylinder-reply-spec = tie.close (tie.spec cylinder-of-requires cylinder-front-requires cylinder-reply-of-requires returns)
