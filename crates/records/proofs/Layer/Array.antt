@@ -23,8 +23,8 @@ use denote.Builtin.{f64}
 use denote.Steps.{only}
 use denote.Struct.Steps.{spelt}
 use denote.Struct.Laws as struct-laws
-use Rattle.section.proofs.shapes.Vertex as vertex
-use Rattle.section.proofs.shapes.Vertex.Laws as vertex-laws
+use Rattle.profile.proofs.shapes.Vertex as vertex
+use Rattle.profile.proofs.shapes.Vertex.Laws as vertex-laws
 use Rattle.profile.specs.declared.shapes.Vertex.{Vertex}
 use Rattle.records.proofs.Layer.Form.{buffer-ty, vertex-ty}
 

@@ -26,8 +26,8 @@ use denote.Signature.{plain}
 use denote.Slice.{sliceTy}
 use denote.Triple.Clauses.{Ended, Clauses}
 use Rattle.profile.specs.declared.shapes.Vertex.{Vertex}
-use Rattle.section.proofs.shapes.Vertex as vertex
-use Rattle.section.proofs.shapes.Vertex.Laws as vertex-laws
+use Rattle.profile.proofs.shapes.Vertex as vertex
+use Rattle.profile.proofs.shapes.Vertex.Laws as vertex-laws
 use Rattle.records.specs.Flattened.{flattened}
 use Rattle.records.specs.Steps.{OfFront}
 use Rattle.records.proofs.copying.blank.Symbol as blank
