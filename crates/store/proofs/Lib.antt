@@ -11,4 +11,5 @@ pub mod Pieces
 pub mod Sums
 pub mod Largest
 pub mod Listed
+pub mod Inputs
 pub mod Example
