@@ -69,7 +69,8 @@ fn put_listing(store: &[u8], text: &mut [u8; 27848]) -> usize
     }
 }
 
-// The same of an input of n bytes that went into the buffer as far as it reaches.
+// The same of an input of n bytes that went into the buffer as far as it reaches. From 20,480 bytes
+// on a buffer holds every store, so that what is longer is none.
 pub fn list_input(buffer: &[u8], n: usize, text: &mut [u8; 27848]) -> usize
     ensures { λ r. ⌜ (let l = inputListing n (now (buffer .entry)) in
         (r ≡ length l) × (now (text .exit) ≡ l ++ drop (length l) (now (text .entry)))) ⌝ }
