@@ -13,6 +13,10 @@ S = [(0, 10), (20, 10), (20, 0), (0, 0)]
 NAN = float("nan")
 
 
+def u32(x):
+    return struct.pack("<I", x)
+
+
 def record(next_, kind, *numbers):
     return struct.pack("<II4d", next_, kind, *(list(numbers) + [0.0] * (4 - len(numbers))))
 
@@ -40,8 +44,8 @@ def box(*numbers):
 def backwards(store):
     """The same chain, its records but the first stored the other way round."""
     parts = [store[at:at + 40] for at in range(0, len(store), 40)]
-    place = lambda k: len(parts) - k if k else 0
-    turned = [struct.pack("<I", place(struct.unpack("<I", part[:4])[0])) + part[4:] for part in parts]
+    links = [struct.unpack("<I", part[:4])[0] for part in parts]
+    turned = [u32(len(parts) - link if link else 0) + part[4:] for part, link in zip(parts, links)]
     return turned[0] + b"".join(reversed(turned[1:]))
 
 
@@ -66,15 +70,15 @@ STORES = {
     "bytes_20480": bytes(20480),
     "bytes_20520": bytes(20520),
     "bytes_30000": bytes(30000),
-    "next_9_of_6": patched(EXAMPLE, 5 * 40, struct.pack("<I", 9)),
-    "next_is_count": patched(EXAMPLE, 5 * 40, struct.pack("<I", 6)),
-    "self_link": patched(EXAMPLE, 3 * 40, struct.pack("<I", 3)),
-    "back_link": patched(EXAMPLE, 5 * 40, struct.pack("<I", 2)),
-    "kind_7": patched(EXAMPLE, 4 * 40 + 4, struct.pack("<I", 7)),
-    "kind_0_chained": patched(EXAMPLE, 4 * 40 + 4, struct.pack("<I", 0)),
-    "record_0_kind_1": patched(EXAMPLE, 4, struct.pack("<I", 1)),
-    "kinds_in_chain_order": patched(backwards(patched(EXAMPLE, 2 * 40 + 4, struct.pack("<I", 7))), 2 * 40 + 4, struct.pack("<I", 7)),
-    "links_before_kinds": patched(patched(EXAMPLE, 4 + 40, struct.pack("<I", 7)), 5 * 40, struct.pack("<I", 9)),
+    "next_9_of_6": patched(EXAMPLE, 5 * 40, u32(9)),
+    "next_is_count": patched(EXAMPLE, 5 * 40, u32(6)),
+    "self_link": patched(EXAMPLE, 3 * 40, u32(3)),
+    "back_link": patched(EXAMPLE, 5 * 40, u32(2)),
+    "kind_7": patched(EXAMPLE, 4 * 40 + 4, u32(7)),
+    "kind_0_chained": patched(EXAMPLE, 4 * 40 + 4, u32(0)),
+    "record_0_kind_1": patched(EXAMPLE, 4, u32(1)),
+    "kinds_in_chain_order": patched(backwards(patched(EXAMPLE, 2 * 40 + 4, u32(7))), 2 * 40 + 4, u32(7)),
+    "links_before_kinds": patched(patched(EXAMPLE, 4 + 40, u32(7)), 5 * 40, u32(9)),
     "big_endian_next": patched(EXAMPLE, 0, struct.pack(">I", 1)),
     "two_vertices": in_order(vertices(S[:2])),
     "vertices_256": in_order(vertices([S[k % 4] for k in range(256)]) + [box(25, 30, 0, 5)]),
@@ -86,7 +90,7 @@ STORES = {
         vertices(S) + [box(5, 4, 0, 5), sphere(0, 0, 0, -1), box(25, 30, 0, 2e6), sphere(NAN, 0, 0, -1), box(25, 30, 0, 5)]
     ),
     "axis_only": in_order(vertices([(0, 0), (20, 0), (10, 0)]) + [sphere(0, 0, 30, 4)]),
-    "unreached_first": patched(patched(EXAMPLE, 0, struct.pack("<I", 2)), 40, b"\xff" * 40),
+    "unreached_first": patched(patched(EXAMPLE, 0, u32(2)), 40, b"\xff" * 40),
     "unreached": EXAMPLE[:5 * 40] + record(0, 3, 25, 30, 0, 5) + b"\xff" * 80,
     # its first edge has no length, so that its first end, with z -0.0, is the sphere's witness
     "minus_zero": in_order(
@@ -100,7 +104,7 @@ STORES = {
 def gate(directory, program):
     with open(f"{directory}/stdin", "wb") as framed, open(f"{directory}/stdout", "wb") as expected:
         for store in STORES.values():
-            framed.write(struct.pack("<I", len(store)) + store)
+            framed.write(u32(len(store)) + store)
             expected.write(subprocess.run([program], input=store, stdout=subprocess.PIPE, check=True).stdout)
 
 
