@@ -3,6 +3,7 @@ pub mod Patterns
 pub mod Lists
 pub mod Filling
 pub mod Following
+pub mod Ending
 pub mod Gathering
 pub mod Reading
 pub mod Writing
