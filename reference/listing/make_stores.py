@@ -1,10 +1,20 @@
 #!/usr/bin/env python3
-"""make_stores.py DIR: writes the example store of document 01, and damaged ones, each as DIR/NAME.store."""
+"""Stores to list: the example of document 01, others, and damaged ones.
+
+make_stores.py DIR                   each as DIR/NAME.store
+make_stores.py DIR --gate PROGRAM    all of them as DIR/stdin, each behind its length in bytes (u32, little-endian), and
+                                     what PROGRAM writes for each, one after the other, as DIR/stdout
+"""
 import struct
+import subprocess
 import sys
 
 S = [(0, 10), (20, 10), (20, 0), (0, 0)]
 NAN = float("nan")
+
+
+def u32(x):
+    return struct.pack("<I", x)
 
 
 def record(next_, kind, *numbers):
@@ -31,6 +41,14 @@ def box(*numbers):
     return (3, numbers)
 
 
+def backwards(store):
+    """The same chain, its records but the first stored the other way round."""
+    parts = [store[at:at + 40] for at in range(0, len(store), 40)]
+    links = [struct.unpack("<I", part[:4])[0] for part in parts]
+    turned = [u32(len(parts) - link if link else 0) + part[4:] for part, link in zip(parts, links)]
+    return turned[0] + b"".join(reversed(turned[1:]))
+
+
 def patched(store, at, data):
     return store[:at] + data + store[at + len(data):]
 
@@ -44,22 +62,26 @@ STORES = {
     "example": EXAMPLE,
     "bodies": in_order(vertices(S) + BODIES),
     "interleaved": in_order([sphere(0, 0, 30, 4), (1, S[0]), (1, S[1]), box(25, 30, 0, 5), (1, S[2]), (1, S[3])]),
+    "backwards": backwards(EXAMPLE),
     "empty": b"",
     "bytes_39": bytes(39),
     "bytes_40": bytes(40),
     "bytes_41": bytes(41),
     "bytes_20480": bytes(20480),
     "bytes_20520": bytes(20520),
-    "next_9_of_6": patched(EXAMPLE, 5 * 40, struct.pack("<I", 9)),
-    "next_is_count": patched(EXAMPLE, 5 * 40, struct.pack("<I", 6)),
-    "self_link": patched(EXAMPLE, 3 * 40, struct.pack("<I", 3)),
-    "back_link": patched(EXAMPLE, 5 * 40, struct.pack("<I", 2)),
-    "kind_7": patched(EXAMPLE, 4 * 40 + 4, struct.pack("<I", 7)),
-    "kind_0_chained": patched(EXAMPLE, 4 * 40 + 4, struct.pack("<I", 0)),
-    "record_0_kind_1": patched(EXAMPLE, 4, struct.pack("<I", 1)),
-    "links_before_kinds": patched(patched(EXAMPLE, 4 + 40, struct.pack("<I", 7)), 5 * 40, struct.pack("<I", 9)),
+    "bytes_30000": bytes(30000),
+    "next_9_of_6": patched(EXAMPLE, 5 * 40, u32(9)),
+    "next_is_count": patched(EXAMPLE, 5 * 40, u32(6)),
+    "self_link": patched(EXAMPLE, 3 * 40, u32(3)),
+    "back_link": patched(EXAMPLE, 5 * 40, u32(2)),
+    "kind_7": patched(EXAMPLE, 4 * 40 + 4, u32(7)),
+    "kind_0_chained": patched(EXAMPLE, 4 * 40 + 4, u32(0)),
+    "record_0_kind_1": patched(EXAMPLE, 4, u32(1)),
+    "kinds_in_chain_order": patched(backwards(patched(EXAMPLE, 2 * 40 + 4, u32(7))), 2 * 40 + 4, u32(7)),
+    "links_before_kinds": patched(patched(EXAMPLE, 4 + 40, u32(7)), 5 * 40, u32(9)),
     "big_endian_next": patched(EXAMPLE, 0, struct.pack(">I", 1)),
     "two_vertices": in_order(vertices(S[:2])),
+    "vertices_256": in_order(vertices([S[k % 4] for k in range(256)]) + [box(25, 30, 0, 5)]),
     "vertices_257": in_order(vertices([S[k % 4] for k in range(257)])),
     "vertex_nan": in_order(vertices(S[:3] + [(NAN, 0)])),
     "vertex_past_limit": in_order(vertices(S[:3] + [(1048577, 0)])),
@@ -68,11 +90,28 @@ STORES = {
         vertices(S) + [box(5, 4, 0, 5), sphere(0, 0, 0, -1), box(25, 30, 0, 2e6), sphere(NAN, 0, 0, -1), box(25, 30, 0, 5)]
     ),
     "axis_only": in_order(vertices([(0, 0), (20, 0), (10, 0)]) + [sphere(0, 0, 30, 4)]),
+    "unreached_first": patched(patched(EXAMPLE, 0, u32(2)), 40, b"\xff" * 40),
     "unreached": EXAMPLE[:5 * 40] + record(0, 3, 25, 30, 0, 5) + b"\xff" * 80,
-    "minus_zero": in_order(vertices([(-0.0, 10), (20, 10), (20, -0.0), (-0.0, -0.0)]) + [box(-5, -1, -0.0, 5), box(20, 25, 0, 5)]),
+    # its first edge has no length, so that its first end, with z -0.0, is the sphere's witness
+    "minus_zero": in_order(
+        vertices([(-0.0, 10), (-0.0, 10), (20, 10), (20, -0.0), (-0.0, -0.0)])
+        + [sphere(10, 0, -5, 1), box(-5, -1, -0.0, 5), box(20, 25, 0, 5)]
+    ),
+    "largest": in_order(vertices(S[:3]) + [sphere(k / 8, 100, 1, 5) for k in range(508)]),
 }
 
+
+def gate(directory, program):
+    with open(f"{directory}/stdin", "wb") as framed, open(f"{directory}/stdout", "wb") as expected:
+        for store in STORES.values():
+            framed.write(u32(len(store)) + store)
+            expected.write(subprocess.run([program], input=store, stdout=subprocess.PIPE, check=True).stdout)
+
+
 if __name__ == "__main__":
-    for name, store in STORES.items():
-        with open(f"{sys.argv[1]}/{name}.store", "wb") as f:
-            f.write(store)
+    if sys.argv[2:3] == ["--gate"]:
+        gate(sys.argv[1], sys.argv[3])
+    else:
+        for name, store in STORES.items():
+            with open(f"{sys.argv[1]}/{name}.store", "wb") as f:
+                f.write(store)

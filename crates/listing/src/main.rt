@@ -6,8 +6,6 @@ ghost use lib.ListN.{length, set};
 ghost use lib.Seq.{sets};
 use libc::STDIN_FILENO;
 use libc::STDOUT_FILENO;
-use store::ListAnswer;
-use store::StoreAnswer;
 
 // Past the buffer nothing is kept.
 fn keep_byte(buffer: &mut [u8], at: usize, x: u8)
@@ -57,33 +55,11 @@ fn read_all(buffer: &mut [u8]) -> usize {
     length
 }
 
-fn write_refusal(number: u32, k: u32) {
-    let mut line = [0u8; 33];
-    let n = store::refusal_line(number, k, &mut line);
-    io::write_all(STDOUT_FILENO, &line[..n]);
-}
-
-fn write_listing(bytes: &[u8]) {
-    let mut text = [0u8; 27848];
-    let answer = store::list_store(bytes, &mut text);
-    match answer {
-        ListAnswer::Refused(number, k) => write_refusal(number, k),
-        ListAnswer::Bytes(n) => {
-            io::write_all(STDOUT_FILENO, &text[..n]);
-        }
-    }
-}
-
 // An input that is longer than every store is judged by its length.
 fn main() {
     let mut buffer = [0u8; 20480];
     let length = read_all(&mut buffer);
-    if length <= 20480 {
-        write_listing(&buffer[..length]);
-        return;
-    }
-    let answer = store::length_answer(length);
-    if let StoreAnswer::Refused(number, k) = answer {
-        write_refusal(number, k);
-    }
+    let mut text = [0u8; 27848];
+    let n = store::list_input(&buffer, length, &mut text);
+    io::write_all(STDOUT_FILENO, &text[..n]);
 }

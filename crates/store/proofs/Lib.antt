@@ -3,6 +3,7 @@ pub mod Patterns
 pub mod Lists
 pub mod Filling
 pub mod Following
+pub mod Ending
 pub mod Gathering
 pub mod Reading
 pub mod Writing
@@ -11,4 +12,5 @@ pub mod Pieces
 pub mod Sums
 pub mod Largest
 pub mod Listed
+pub mod Inputs
 pub mod Example

@@ -50,11 +50,32 @@ module _
 pub front-within : (l rest : List ℕ) {after : List ℕ} {n : ℕ} → n ≡ length l → after ≡ l ++ rest → n ≤ length after
 front-within l rest count e = rw (e, count) (omega (arith, length-append l rest))
 
-pub listing-within :
+-- what is printed: the listing, as list_store put it,
+pub listed-front :
     (a : StoreAnswer) (l given : List ℕ) {after : List ℕ} {n : ℕ} → Bytes n ≡ listAnswer a l → after ≡ textAfter a l given
-    → n ≤ length after
-listing-within Accepted l given count e = front-within l (drop (length l) given) (same-count count) e
-listing-within (Refused k m) l given count e = absurd (never count)
+    → (n ≡ length l) × (after ≡ l ++ drop (length l) given)
+listed-front Accepted l given count e = (same-count count, e)
+listed-front (Refused k m) l given count e = absurd (never count)
+
+turned :
+    (a : StoreAnswer) (l given : List ℕ) {after : List ℕ} {n k : ℕ} → NotListed n k ≡ listAnswer a l
+    → after ≡ textAfter a l given → (a ≡ Refused n k) × (after ≡ given)
+turned Accepted l given same e = absurd (never (sym same))
+turned (Refused m j) l given same e = (cc, e)
+
+line-printed : (b : List ℕ) {n k : ℕ} → storeAnswer b ≡ Refused n k → listing b ≡ refusalLine n k
+unfolding listing
+line-printed b e = rw e
+
+-- or the line of the refusal, on the text as it was
+pub refused-front :
+    (b given : List ℕ) {mid after : List ℕ} {n k r : ℕ} → NotListed n k ≡ listAnswer (storeAnswer b) (listing b)
+    → mid ≡ textAfter (storeAnswer b) (listing b) given → length (refusalLine n k) ≤ length mid
+    → Written mid 0 (refusalLine n k) after r
+    → (r ≡ length (listing b)) × (after ≡ listing b ++ drop (length (listing b)) given)
+refused-front b given {mid} {after} {n} {k} same kept room written =
+    let told = turned (storeAnswer b) (listing b) given same kept in
+    rw (line-printed b (told .0), ← told .1) (front-written written room)
 
 -- the line of a refusal, whatever its numbers
 pub refusal-short : (n k : ℕ) → n < 2 ^ 32 → k < 2 ^ 32 → length (refusalLine n k) ≤ 33

@@ -3,7 +3,8 @@
 use Prim.Native.Nat.{ℕ}
 use mathlib.Core.Bool.{_||_, cond}
 use mathlib.Core.List.{List, [], _++_, flatMap}
-use lib.ListN.{length, drop}
+use lib.ListN.{length, take, drop}
+use lib.Dec.{leb}
 use lib.Ieee.{Float}
 use Rattle.profile.specs.Vertices.{count}
 use Rattle.section.specs.Answers.{sphereAnswer, boxAnswer}
@@ -70,6 +71,11 @@ listingOf b (Turned n k) = refusalLine n k
 -- 01's listing of a store, any bytes whatever
 unfoldable pub listing : List ℕ → List ℕ
 listing b = listingOf b (storeAnswer b)
+
+-- Of an input of n bytes that went into a buffer as far as it reaches. What is longer than a buffer for the largest store
+-- is no store.
+unfoldable pub inputListing : ℕ → List ℕ → List ℕ
+inputListing n buffer = cond (leb n (length buffer)) (listing (take n buffer)) (refusalLine 12 0)
 
 -- what `list_store` answers: how many bytes the listing has, or the refusal
 abbrev pub listAnswer : StoreAnswer → List ℕ → ListAnswer

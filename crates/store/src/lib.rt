@@ -12,7 +12,7 @@ mod vertices;
 
 pub use answers::ListAnswer;
 pub use answers::StoreAnswer;
+pub use listing::list_input;
 pub use listing::list_store;
 pub use listing::refusal_line;
-pub use reader::length_answer;
 pub use reader::read_store;

@@ -5,7 +5,7 @@ ghost use Prim.Native.Nat.{_≤_};
 ghost use lib.ListN.{length, drop};
 ghost use Rattle.store.specs.Store.{storeAnswer};
 ghost use Rattle.store.specs.Listing as listing·specs;
-ghost use Rattle.store.specs.Listing.{acceptedText, refusalLine, listAnswer, textAfter};
+ghost use Rattle.store.specs.Listing.{acceptedText, refusalLine, inputListing, listAnswer, textAfter};
 ghost use Rattle.store.specs.Promises.{Written};
 use super::answers::Filled;
 use super::answers::ListAnswer;
@@ -55,4 +55,28 @@ pub fn refusal_line(number: u32, k: u32, text: &mut [u8; 33]) -> usize
         (r ≡ length l) × (now (text .exit) ≡ l ++ drop (length l) (now (text .entry)))) ⌝ }
 {
     put_refusal_line(number, k, text)
+}
+
+// Puts what the listing program prints of a store: its listing, or the line of its refusal.
+fn put_listing(store: &[u8], text: &mut [u8; 27848]) -> usize
+    ensures { λ r. ⌜ (let l = listing·specs.listing (now (store .entry)) in
+        (r ≡ length l) × (now (text .exit) ≡ l ++ drop (length l) (now (text .entry)))) ⌝ }
+{
+    let answer = list_store(store, text);
+    match answer {
+        ListAnswer::Bytes(n) => n,
+        ListAnswer::Refused(number, k) => put_refusal_line(number, k, text),
+    }
+}
+
+// The same of an input of n bytes that went into the buffer as far as it reaches. From 20,480 bytes
+// on a buffer holds every store, so that what is longer is none.
+pub fn list_input(buffer: &[u8], n: usize, text: &mut [u8; 27848]) -> usize
+    ensures { λ r. ⌜ (let l = inputListing n (now (buffer .entry)) in
+        (r ≡ length l) × (now (text .exit) ≡ l ++ drop (length l) (now (text .entry)))) ⌝ }
+{
+    if n <= buffer.len() {
+        return put_listing(&buffer[..n], text);
+    }
+    put_refusal_line(12, 0, text)
 }
