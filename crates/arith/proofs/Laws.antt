@@ -15,5 +15,6 @@ pub mod Shift
 pub mod Hypot
 pub mod HypotKey
 pub mod HypotZero
+pub mod HypotReach
 pub mod Sqrt
 pub mod Constants

@@ -1,5 +1,6 @@
 -- Laws of tests that the functions' proofs share, and demand 1 over the definitions.
 pub mod Flags
 pub mod Overlap
+pub mod Outside
 pub mod Answered
 pub mod Demand

@@ -10,24 +10,18 @@ ghost use Rattle.section.specs.Points.{pointDistance};
 ghost use Rattle.section.specs.Boxes.{corners, edgeBox, wellInside, middle, crossesBox};
 ghost use Rattle.section.specs.Boxes.{boxGap, boxPenetration, boxWitness, boxHolds, result, boxDistance};
 use super::clip::clip_segment;
+use super::points::in_section;
 use super::points::signed_distance_2d;
 use super::segment::lerp;
 use super::segment::seg_seg_point_on_first;
+use super::thresholds::BOUNDARY;
+use super::thresholds::INTERIOR;
 use profile::Aabb;
 use profile::CollisionHit;
 use profile::Vertex;
-use super::thresholds::BOUNDARY;
-use super::thresholds::INTERIOR;
 use profile::end_at;
 use profile::nearer_of;
 use profile::vertex_at;
-
-// The side of the box from c to d may be nearer.
-fn nearer_side(a: Vertex, b: Vertex, c: Vertex, d: Vertex, best: CollisionHit) -> CollisionHit
-    ensures { λ r. ⌜ r ≡ nearer best (segments a b c d) ⌝ }
-{
-    nearer_of(best, seg_seg_point_on_first(a, b, c, d))
-}
 
 fn nearest_side(a: Vertex, b: Vertex, x: Aabb) -> CollisionHit
     ensures { λ r. ⌜ r ≡ nearestOf (λ k. segments a b (vertexAt (corners x) k) (endAt (corners x) k)) (hit ∞ a) 4 ⌝ }
@@ -40,10 +34,10 @@ fn nearest_side(a: Vertex, b: Vertex, x: Aabb) -> CollisionHit
         distance: arith::infinity(),
         witness: a,
     };
-    let first = nearer_side(a, b, c00, c10, none);
-    let second = nearer_side(a, b, c10, c11, first);
-    let third = nearer_side(a, b, c11, c01, second);
-    nearer_side(a, b, c01, c00, third)
+    let first = seg_seg_point_on_first(a, b, c00, c10, none);
+    let second = seg_seg_point_on_first(a, b, c10, c11, first);
+    let third = seg_seg_point_on_first(a, b, c11, c01, second);
+    seg_seg_point_on_first(a, b, c01, c00, third)
 }
 
 pub fn segment_aabb_distance(a: Vertex, b: Vertex, x: Aabb) -> CollisionHit
@@ -117,11 +111,17 @@ fn box_gap(s: &[f64], x: Aabb) -> CollisionHit
     best
 }
 
-// The section may be deeper at p.
+// The section may be deeper at p. Outside it is not, and needs no distance.
 pub fn deeper_at(s: &[f64], p: Vertex, best: CollisionHit) -> CollisionHit
     requires { ⌜ 3 ≤ count (now s) ⌝ }
     ensures { λ r. ⌜ r ≡ nearer best (pointDistance (now (s .entry)) p) ⌝ }
 {
+    if in_section(s, p) {
+        return nearer_of(best, signed_distance_2d(s, p));
+    }
+    if best.distance <= 0.0 {
+        return best;
+    }
     nearer_of(best, signed_distance_2d(s, p))
 }
 

@@ -3,8 +3,8 @@ ghost use mathlib.Core.Path.{_≡_};
 ghost use mathlib.Core.Bool.{cond};
 ghost use Rattle.arith.specs.F64.{_≺_};
 ghost use Rattle.section.specs.Boxes.{part, outside, clipSide, clip};
-use profile::Aabb;
 use super::shapes::Clip;
+use profile::Aabb;
 use profile::Vertex;
 
 fn nothing() -> Clip

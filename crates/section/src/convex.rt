@@ -13,12 +13,13 @@ ghost use Rattle.section.specs.Convex.{convexRow, convexGap, orientation
 ghost use Rattle.section.specs.Convex.{convexPenetration, properCrossing, anyCrossing, convexDistance};
 use super::aabb::deeper_at;
 use super::aabb::result_of;
-use super::segment::point_segment;
+use super::segment::closer_between;
+use super::segment::closest_point;
 use super::segment::seg_seg_point_on_first;
-use profile::CollisionHit;
-use profile::Vertex;
 use super::thresholds::BOUNDARY;
 use super::thresholds::INTERIOR;
+use profile::CollisionHit;
+use profile::Vertex;
 use profile::end_at;
 use profile::nearer_of;
 use profile::vertex_at;
@@ -28,10 +29,7 @@ fn nearer_edge(s: &[f64], j: usize, a: Vertex, b: Vertex, best: CollisionHit) ->
     requires { ⌜ j < count (now s) ⌝ }
     ensures { λ r. ⌜ r ≡ nearer best (segments (vertexAt (now (s .entry)) j) (endAt (now (s .entry)) j) a b) ⌝ }
 {
-    nearer_of(
-        best,
-        seg_seg_point_on_first(vertex_at(s, j), end_at(s, j), a, b),
-    )
+    seg_seg_point_on_first(vertex_at(s, j), end_at(s, j), a, b, best)
 }
 
 fn convex_row(c: &[f64], s: &[f64], i: usize, start: CollisionHit) -> CollisionHit
@@ -104,8 +102,8 @@ fn closer_edge(c: &[f64], p: Vertex, k: usize, best: f64) -> f64
     requires { ⌜ k < count (now c) ⌝ }
     ensures { λ r. ⌜ r ≡ num.min best (closest p (vertexAt (now (c .entry)) k) (endAt (now (c .entry)) k) .distance) ⌝ }
 {
-    let h = point_segment(p, vertex_at(c, k), end_at(c, k));
-    arith::min(best, h.distance)
+    let q = closest_point(p, vertex_at(c, k), end_at(c, k));
+    closer_between(best, p, q)
 }
 
 fn convex_near(c: &[f64], p: Vertex) -> f64
@@ -144,7 +142,9 @@ fn deeper_corner(c: &[f64], s: &[f64], i: usize, best: CollisionHit) -> Collisio
 
 fn deepest_corner(c: &[f64], s: &[f64], witness: Vertex) -> CollisionHit
     requires { ⌜ 3 ≤ count (now s) ⌝ }
-    ensures { λ r. ⌜ r ≡ nearestOf (λ i. pointDistance (now (s .entry)) (vertexAt (now (c .entry)) i)) (hit 𝟘 witness) (count (now (c .entry))) ⌝ }
+    ensures { λ r. ⌜ r ≡
+        nearestOf (λ i. pointDistance (now (s .entry)) (vertexAt (now (c .entry)) i)) (hit 𝟘 witness)
+        (count (now (c .entry))) ⌝ }
 {
     let n = c.len() / 2;
     let mut best = CollisionHit {
@@ -159,17 +159,29 @@ fn deepest_corner(c: &[f64], s: &[f64], witness: Vertex) -> CollisionHit
     best
 }
 
-// Vertex j of the section may be deeper in the convex body.
-fn deeper_vertex(c: &[f64], s: &[f64], j: usize, best: CollisionHit) -> CollisionHit
-    requires { ⌜ j < count (now s) ⌝ }
-    ensures { λ r. ⌜ r ≡ nearer best (hit (convexPoint (now (c .entry)) (vertexAt (now (s .entry)) j)) (vertexAt (now (s .entry)) j)) ⌝ }
+fn deeper_point(c: &[f64], v: Vertex, best: CollisionHit) -> CollisionHit
+    ensures { λ r. ⌜ r ≡ nearer best (hit (convexPoint (now (c .entry)) v) v) ⌝ }
 {
-    let v = vertex_at(s, j);
     let new = CollisionHit {
         distance: signed_distance_convex(c, v),
         witness: v,
     };
     nearer_of(best, new)
+}
+
+// Vertex j of the section may be deeper in the convex body. Outside it is not, and needs no distance.
+fn deeper_vertex(c: &[f64], s: &[f64], j: usize, best: CollisionHit) -> CollisionHit
+    requires { ⌜ j < count (now s) ⌝ }
+    ensures { λ r. ⌜ r ≡ nearer best (hit (convexPoint (now (c .entry)) (vertexAt (now (s .entry)) j)) (vertexAt (now (s .entry)) j)) ⌝ }
+{
+    let v = vertex_at(s, j);
+    if point_in_convex(c, v) {
+        return deeper_point(c, v, best);
+    }
+    if best.distance <= 0.0 {
+        return best;
+    }
+    deeper_point(c, v, best)
 }
 
 fn convex_penetration(c: &[f64], s: &[f64], witness: Vertex) -> CollisionHit

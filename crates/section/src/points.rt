@@ -9,14 +9,13 @@ ghost use Rattle.section.specs.Points as points;
 ghost use Rattle.section.specs.Points.{surface, surfaceStep, surfaceNear, crossing, oddCrossings};
 ghost use Rattle.section.specs.Points.{insideAxisEdge, inSection, pointDistance, sphereDistance};
 use super::segment::point_segment;
+use super::thresholds::BOUNDARY;
+use arith::Vec3;
 use profile::CollisionHit;
 use profile::Sphere;
 use profile::Vertex;
-use super::thresholds::BOUNDARY;
 use profile::end_at;
-use profile::nearer_of;
 use profile::vertex_at;
-use arith::Vec3;
 
 // An edge with both ends on the axis is no surface.
 fn edge_is_surface(a: Vertex, b: Vertex) -> bool
@@ -30,7 +29,7 @@ fn surface_edge(p: Vertex, a: Vertex, b: Vertex, best: CollisionHit) -> Collisio
     ensures { λ r. ⌜ r ≡ cond (surface a b) (nearer best (closest p a b)) best ⌝ }
 {
     if edge_is_surface(a, b) {
-        return nearer_of(best, point_segment(p, a, b));
+        return point_segment(p, a, b, best);
     }
     best
 }
@@ -128,7 +127,7 @@ fn on_axis(s: &[f64], z: f64) -> bool
     false
 }
 
-fn in_section(s: &[f64], p: Vertex) -> bool
+pub fn in_section(s: &[f64], p: Vertex) -> bool
     ensures { λ r. ⌜ r ≡ inSection (now (s .entry)) p ⌝ }
 {
     if point_inside(s, p) {

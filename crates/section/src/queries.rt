@@ -9,14 +9,14 @@ use super::convex::convex_distance;
 use super::points::meridian;
 use super::points::signed_distance_2d;
 use super::points::sphere_distance;
+use super::shapes::Answer;
+use arith::Vec3;
+use profile::Aabb;
+use profile::Sphere;
 use profile::box_refusal;
 use profile::convex_refusal;
 use profile::point_refusal;
 use profile::sphere_refusal;
-use profile::Aabb;
-use super::shapes::Answer;
-use profile::Sphere;
-use arith::Vec3;
 
 pub fn signed_distance(section: &[f64], point: Vec3) -> Answer
     ensures { λ r. ⌜ (r ≡ pointAnswer (now (section .entry)) point) × OfHit (BoundedOffAxis (now (section .entry))) r ⌝ }

@@ -4,11 +4,11 @@ ghost use mathlib.Core.Bool.{cond};
 ghost use lib.Ieee.{neg};
 ghost use Rattle.arith.specs.F64.{_⊕_, _⊗_, _⊘_, _≺_, 𝟘, e-18};
 ghost use Rattle.arith.specs.Num as num;
-ghost use Rattle.profile.specs.Vertices.{vertex};
+ghost use Rattle.profile.specs.Vertices.{vertex, hit, nearer};
 ghost use Rattle.section.specs.Segments.{dot, along, apart, clamp01, closest};
 ghost use Rattle.section.specs.Segments.{places, closestPlaces, segments};
-use profile::CollisionHit;
 use super::shapes::Places;
+use profile::CollisionHit;
 use profile::Vertex;
 
 fn dot2(a: Vertex, b: Vertex) -> f64
@@ -36,10 +36,47 @@ fn advance(a: Vertex, d: Vertex, t: f64) -> Vertex
     }
 }
 
-fn distance_between(p: Vertex, q: Vertex) -> f64
-    ensures { λ r. ⌜ r ≡ apart p q ⌝ }
+// The point w, at the distance of p and q, where that is less than best. A hypot is no less than
+// either leg, so that most need no root.
+fn nearer_between(best: CollisionHit, p: Vertex, q: Vertex, w: Vertex) -> CollisionHit
+    ensures { λ r. ⌜ r ≡ nearer best (hit (apart p q) w) ⌝ }
 {
-    arith::hypot(p.z - q.z, p.r - q.r)
+    let least = best.distance;
+    let dz = p.z - q.z;
+    if arith::abs(dz) >= least {
+        return best;
+    }
+    let dr = p.r - q.r;
+    if arith::abs(dr) >= least {
+        return best;
+    }
+    let distance = arith::hypot(dz, dr);
+    if distance < least {
+        return CollisionHit {
+            distance,
+            witness: w,
+        };
+    }
+    best
+}
+
+// The lesser of best and the distance of p and q; a NaN leg is left to hypot.
+pub fn closer_between(best: f64, p: Vertex, q: Vertex) -> f64
+    ensures { λ r. ⌜ r ≡ num.min best (apart p q) ⌝ }
+{
+    let dz = p.z - q.z;
+    let dr = p.r - q.r;
+    if dr == dr {
+        if arith::abs(dz) >= best {
+            return best;
+        }
+    }
+    if dz == dz {
+        if arith::abs(dr) >= best {
+            return best;
+        }
+    }
+    arith::min(best, arith::hypot(dz, dr))
 }
 
 fn unit_clamp(t: f64) -> f64
@@ -48,8 +85,8 @@ fn unit_clamp(t: f64) -> f64
     arith::clamp(t, 0.0, 1.0)
 }
 
-pub fn point_segment(p: Vertex, a: Vertex, b: Vertex) -> CollisionHit
-    ensures { λ r. ⌜ r ≡ closest p a b ⌝ }
+pub fn closest_point(p: Vertex, a: Vertex, b: Vertex) -> Vertex
+    ensures { λ r. ⌜ r ≡ closest p a b .witness ⌝ }
 {
     let az = a.z;
     let ar = a.r;
@@ -57,20 +94,21 @@ pub fn point_segment(p: Vertex, a: Vertex, b: Vertex) -> CollisionHit
     let dr = b.r - ar;
     let len2 = dz * dz + dr * dr;
     if len2 <= 1e-24 {
-        return CollisionHit {
-            distance: distance_between(p, a),
-            witness: a,
-        };
+        return a;
     }
     let t = unit_clamp(((p.z - az) * dz + (p.r - ar) * dr) / len2);
-    let q = Vertex {
+    Vertex {
         z: az + dz * t,
         r: ar + dr * t,
-    };
-    CollisionHit {
-        distance: distance_between(p, q),
-        witness: q,
     }
+}
+
+// The segment from a to b may be nearer to p.
+pub fn point_segment(p: Vertex, a: Vertex, b: Vertex, best: CollisionHit) -> CollisionHit
+    ensures { λ r. ⌜ r ≡ nearer best (closest p a b) ⌝ }
+{
+    let q = closest_point(p, a, b);
+    nearer_between(best, p, q, q)
 }
 
 // Where on the first segment to start: 0 where the two are nearly parallel.
@@ -121,9 +159,15 @@ fn closest_places(a: f64, b: f64, c: f64, e: f64, f: f64) -> Places
     Places { s, t }
 }
 
-// The distance of two segments, and the point on the first.
-pub fn seg_seg_point_on_first(p1: Vertex, q1: Vertex, p2: Vertex, q2: Vertex) -> CollisionHit
-    ensures { λ r. ⌜ r ≡ segments p1 q1 p2 q2 ⌝ }
+// The second segment may be nearer to the first, at a point of the first.
+pub fn seg_seg_point_on_first(
+    p1: Vertex,
+    q1: Vertex,
+    p2: Vertex,
+    q2: Vertex,
+    best: CollisionHit,
+) -> CollisionHit
+    ensures { λ r. ⌜ r ≡ nearer best (segments p1 q1 p2 q2) ⌝ }
 {
     let d1 = Vertex {
         z: q1.z - p1.z,
@@ -146,8 +190,5 @@ pub fn seg_seg_point_on_first(p1: Vertex, q1: Vertex, p2: Vertex, q2: Vertex) ->
     );
     let on_first = advance(p1, d1, at.s);
     let on_second = advance(p2, d2, at.t);
-    CollisionHit {
-        distance: distance_between(on_first, on_second),
-        witness: on_first,
-    }
+    nearer_between(best, on_first, on_second, on_first)
 }

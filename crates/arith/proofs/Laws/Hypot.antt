@@ -112,7 +112,7 @@ hypot-number f x y p q = go (kind f x p) (kind f y q)
         (magnitude f x * magnitude f x + magnitude f y * magnitude f y))
 
 -- ---- sizes
-unsigned-key : (f : Format) (x : Float) → T (number f x) → key f (unsigned x) ≡ mid f + magnitude f x
+pub unsigned-key : (f : Format) (x : Float) → T (number f x) → key f (unsigned x) ≡ mid f + magnitude f x
 unfolding isNan key magnitude
 unsigned-key f nan h = absurd (and-r (fits f nan) false h)
 unsigned-key f (inf s) h = refl

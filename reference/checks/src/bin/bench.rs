@@ -9,6 +9,7 @@ use std::time::{Duration, Instant};
 
 const SAMPLES: usize = 15;
 const BODIES: usize = 64;
+const CLEARANCE: f64 = 2.0;
 
 /// Something to time: runs over all inputs once and returns how many calls that were.
 type Run<'a> = Box<dyn FnMut() -> usize + 'a>;
@@ -78,6 +79,9 @@ macro_rules! rust {
             over($bodies, move |b: &Body| solid.signed_distance(Vec3::new(b.x, b.y, b.z)).map(|d| d - b.radius)),
             over($bodies, move |b: &Body| aabb_polygon_distance(b.z, b.z + 5.0, b.x, b.x + b.radius, points)),
             over($bodies, move |b: &Body| convex_polygon_distance(&b.corners, points)),
+            over($bodies, move |b: &Body| {
+                aabb_polygon_distance(b.z, b.z + 5.0, b.x, b.x + b.radius, points).map(|h| h.0 + 1e-9 < CLEARANCE)
+            }),
         ]
     }};
 }
@@ -106,7 +110,7 @@ fn queries(least: Duration) {
         assert_eq!(list.len(), 2 * count);
         let (list, points) = (list.as_slice(), vertices(&list));
         let (libm, exact) = (revolve_libm::probe::solid(&points), revolve_exact::probe::solid(&points));
-        let port: [Run; 4] = [
+        let port: [Run; 5] = [
             over(&bodies, move |b| jorghipa::point(list, Point { x: b.x, y: b.y, z: b.z })),
             over(&bodies, move |b| {
                 jorghipa::sphere(list, Sphere { center: Point { x: b.x, y: b.y, z: b.z }, radius: b.radius })
@@ -115,10 +119,14 @@ fn queries(least: Duration) {
                 jorghipa::rectangle(list, Rectangle { z0: b.z, z1: b.z + 5.0, r0: b.x, r1: b.x + b.radius })
             }),
             over(&bodies, move |b| jorghipa::convex(&b.octagon, list)),
+            over(&bodies, move |b| {
+                let bounds = Rectangle { z0: b.z, z1: b.z + 5.0, r0: b.x, r1: b.x + b.radius };
+                jorghipa::verdict_rectangle(list, bounds, CLEARANCE)
+            }),
         ];
         let libm = rust!(revolve_libm, &libm, &points, &bodies);
         let exact = rust!(revolve_exact, &exact, &points, &bodies);
-        let names = ["point", "sphere", "box", "convex, 8 corners"];
+        let names = ["point", "sphere", "box", "convex, 8 corners", "verdict of a box"];
         for (((name, libm), exact), port) in names.into_iter().zip(libm).zip(exact).zip(port) {
             print_row(Row { name: name.into(), vertices: count, ways: [libm, exact, port] }, least);
         }

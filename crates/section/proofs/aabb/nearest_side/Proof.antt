@@ -7,27 +7,27 @@ use Rattle.section.proofs.aabb.nearest_side.Tie as tie
 infinity-requires : tie.Need-infinity-requires
 infinity-requires c κs = search needs
 
-nearer-side-requires : tie.Need-nearer-side-requires
-nearer-side-requires c κs = search needs
+seg-seg-point-on-first-requires : tie.Need-seg-seg-point-on-first-requires
+seg-seg-point-on-first-requires c κs = search needs
 
-nearer-side-requires-2 : tie.Need-nearer-side-requires-2
-nearer-side-requires-2 c κs = search needs
+seg-seg-point-on-first-requires-2 : tie.Need-seg-seg-point-on-first-requires-2
+seg-seg-point-on-first-requires-2 c κs = search needs
 
-nearer-side-requires-3 : tie.Need-nearer-side-requires-3
-nearer-side-requires-3 c κs = search needs
+seg-seg-point-on-first-requires-3 : tie.Need-seg-seg-point-on-first-requires-3
+seg-seg-point-on-first-requires-3 c κs = search needs
 
-nearer-side-requires-4 : tie.Need-nearer-side-requires-4
-nearer-side-requires-4 c κs = search needs
+seg-seg-point-on-first-requires-4 : tie.Need-seg-seg-point-on-first-requires-4
+seg-seg-point-on-first-requires-4 c κs = search needs
 
 returns : tie.Need-returns
 unfolding upto
 returns c =
     rw (
       ← c .before .before .before .before .infinity .ensures,
-      ← c .before .before .before .nearer-side .ensures,
-      ← c .before .before .nearer-side2 .ensures,
-      ← c .before .nearer-side3 .ensures,
-      ← c .nearer-side4 .ensures,
+      ← c .before .before .before .seg-seg-point-on-first .ensures,
+      ← c .before .before .seg-seg-point-on-first2 .ensures,
+      ← c .before .seg-seg-point-on-first3 .ensures,
+      ← c .seg-seg-point-on-first4 .ensures,
     )
 
 pub nearest-side-spec : {M : Type 1} → statement M
@@ -35,8 +35,8 @@ nearest-side-spec =
     tie.close
     (tie.spec
     infinity-requires
-    nearer-side-requires
-    nearer-side-requires-2
-    nearer-side-requires-3
-    nearer-side-requires-4
+    seg-seg-point-on-first-requires
+    seg-seg-point-on-first-requires-2
+    seg-seg-point-on-first-requires-3
+    seg-seg-point-on-first-requires-4
     returns)

@@ -12,19 +12,15 @@ end-at-requires c κs = search needs
 seg-seg-point-on-first-requires : tie.Need-seg-seg-point-on-first-requires
 seg-seg-point-on-first-requires c κs = search needs
 
-nearer-of-requires : tie.Need-nearer-of-requires
-nearer-of-requires c κs = search needs
-
 returns : tie.Need-returns
 returns c =
     rw (
-      ← c .before .before .before .vertex-at .ensures,
-      ← c .before .before .end-at .ensures,
-      ← c .before .seg-seg-point-on-first .ensures,
-      ← c .nearer-of .ensures,
+      ← c .before .before .vertex-at .ensures,
+      ← c .before .end-at .ensures,
+      ← c .seg-seg-point-on-first .ensures,
     )
 
 pub nearer-edge-spec : {M : Type 1} → statement M
 nearer-edge-spec =
     tie.close
-    (tie.spec vertex-at-requires end-at-requires seg-seg-point-on-first-requires nearer-of-requires returns)
+    (tie.spec vertex-at-requires end-at-requires seg-seg-point-on-first-requires returns)

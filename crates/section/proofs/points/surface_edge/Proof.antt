@@ -9,22 +9,11 @@ edge-is-surface-requires c κs = search needs
 point-segment-requires : tie.Need-point-segment-requires
 point-segment-requires c κs = search needs
 
-nearer-of-requires : tie.Need-nearer-of-requires
-nearer-of-requires c κs = search needs
-
 returns : tie.Need-returns
-returns c =
-    rw (
-      ← c .before .before .before .edge-is-surface .ensures,
-      c .before .before .if1 .taken,
-      ← c .before .point-segment .ensures,
-      ← c .nearer-of .ensures,
-    )
+returns c = rw (← c .before .before .edge-is-surface .ensures, c .before .if1 .taken, ← c .point-segment .ensures)
 
 returns-2 : tie.Need-returns-2
 returns-2 c = rw (← c .before .edge-is-surface .ensures, c .if1 .left)
 
 pub surface-edge-spec : {M : Type 1} → statement M
-surface-edge-spec =
-    tie.close
-    (tie.spec edge-is-surface-requires point-segment-requires nearer-of-requires returns returns-2)
+surface-edge-spec = tie.close (tie.spec edge-is-surface-requires point-segment-requires returns returns-2)

@@ -28,14 +28,14 @@ advance-requires c κs = search needs
 advance-requires-2 : tie.Need-advance-requires-2
 advance-requires-2 c κs = search needs
 
-distance-between-requires : tie.Need-distance-between-requires
-distance-between-requires c κs = search needs
+nearer-between-requires : tie.Need-nearer-between-requires
+nearer-between-requires c κs = search needs
 
 returns : tie.Need-returns
 unfolding segments
 returns c =
     rw (
-      c .distance-between .ensures,
+      c .nearer-between .ensures,
       c .before .advance2 .ensures,
       c .before .before .advance .ensures,
       ← c .before .before .before .before .before .before .before .before .dot2 .ensures,
@@ -58,5 +58,5 @@ seg-seg-point-on-first-spec =
     closest-places-requires
     advance-requires
     advance-requires-2
-    distance-between-requires
+    nearer-between-requires
     returns)
