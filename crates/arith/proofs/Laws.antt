@@ -1,5 +1,6 @@
 -- The laws that callers cite, over any format: order, monotone operations, the middle, bounds, roots, and 01's constants.
 pub mod Order
+pub mod OrderHeld
 pub mod Monotone
 pub mod Exact
 pub mod Extended

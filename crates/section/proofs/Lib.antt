@@ -2,5 +2,6 @@
 pub mod Flags
 pub mod Overlap
 pub mod Outside
+pub mod Nearest
 pub mod Answered
 pub mod Demand

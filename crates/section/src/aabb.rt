@@ -23,36 +23,35 @@ use profile::end_at;
 use profile::nearer_of;
 use profile::vertex_at;
 
-fn nearest_side(a: Vertex, b: Vertex, x: Aabb) -> CollisionHit
-    ensures { λ r. ⌜ r ≡ nearestOf (λ k. segments a b (vertexAt (corners x) k) (endAt (corners x) k)) (hit ∞ a) 4 ⌝ }
+// A side of the box may be nearer to the edge from a to b.
+fn nearest_side(a: Vertex, b: Vertex, x: Aabb, best: CollisionHit) -> CollisionHit
+    ensures { λ r. ⌜ r ≡ nearestOf (λ k. segments a b (vertexAt (corners x) k) (endAt (corners x) k)) best 4 ⌝ }
 {
     let c00 = Vertex { z: x.z0, r: x.r0 };
     let c10 = Vertex { z: x.z1, r: x.r0 };
     let c11 = Vertex { z: x.z1, r: x.r1 };
     let c01 = Vertex { z: x.z0, r: x.r1 };
-    let none = CollisionHit {
-        distance: arith::infinity(),
-        witness: a,
-    };
-    let first = seg_seg_point_on_first(a, b, c00, c10, none);
+    let first = seg_seg_point_on_first(a, b, c00, c10, best);
     let second = seg_seg_point_on_first(a, b, c10, c11, first);
     let third = seg_seg_point_on_first(a, b, c11, c01, second);
     seg_seg_point_on_first(a, b, c01, c00, third)
 }
 
-pub fn segment_aabb_distance(a: Vertex, b: Vertex, x: Aabb) -> CollisionHit
-    ensures { λ r. ⌜ r ≡ edgeBox x a b ⌝ }
+// The edge from a to b may be nearer to the box.
+pub fn segment_aabb_distance(a: Vertex, b: Vertex, x: Aabb, best: CollisionHit) -> CollisionHit
+    ensures { λ r. ⌜ r ≡ nearer best (edgeBox x a b) ⌝ }
 {
     let c = clip_segment(a, b, x);
     let any = c.any;
     let t0 = c.t0;
     if any {
-        return CollisionHit {
+        let entered = CollisionHit {
             distance: 0.0,
             witness: lerp(a, b, t0),
         };
+        return nearer_of(best, entered);
     }
-    nearest_side(a, b, x)
+    nearest_side(a, b, x, best)
 }
 
 pub fn strictly_inside_aabb(v: Vertex, x: Aabb) -> bool
@@ -91,7 +90,7 @@ fn gap_at(s: &[f64], x: Aabb, k: usize, best: CollisionHit) -> CollisionHit
 {
     let a = vertex_at(s, k);
     let b = end_at(s, k);
-    nearer_of(best, segment_aabb_distance(a, b, x))
+    segment_aabb_distance(a, b, x, best)
 }
 
 fn box_gap(s: &[f64], x: Aabb) -> CollisionHit

@@ -6,21 +6,15 @@ use mathlib.Core.Path.{_≡_, ap, refl, subst, sym, _∙_}
 use native.Mathlib.Omega.{arith}
 use lib.Dec.{T}
 use lib.Ieee.{eq, fin, fits, Float, Format, inf, isNan, le, lt, nan, neg}
-use lib.Ieee.Fits.{and-i, neg-fits}
+use lib.Ieee.Fits.{neg-fits}
 use Rattle.roots.specs.Roots.{hypot}
 use Rattle.roots.proofs.Rounding.Key.{key-is, magnitude, mid, negative, number, side}
 use Rattle.roots.proofs.Rounding.KeyOrder.{key→le}
 use Rattle.arith.specs.F64.{𝟘}
 use Rattle.arith.specs.Num.{abs}
 use Rattle.arith.proofs.Laws.Order.{le-trans-float, lt-is-not-le}
+use Rattle.arith.proofs.Laws.OrderHeld.{T→true, true→T, held-number}
 use Rattle.arith.proofs.Laws.Hypot.{hypot-comm, hypot-ge, hypot-neg, hypot-number, unsigned, unsigned-key, unsigned-number}
-
-T→true : (b : Bool) → T b → b ≡ true
-T→true true h = refl
-T→true false h = absurd h
-
-true→T : {b : Bool} → b ≡ true → T b
-true→T e = subst (λ (t : Bool). T t) (sym e) tt
 
 at-most : (m a : ℕ) (s : Bool) → side m s a ≤ m + a
 at-most m a true = omega arith
@@ -75,20 +69,17 @@ no-number-less f (fin t n j) (inf s) = refl
 no-number-less f (fin t n j) (fin s m i) = refl
 
 module _ (f : Format) where
-  numbered : (x : Float) → T (fits f x) → T (not (isNan x)) → T (number f x)
-  numbered x p q = and-i (fits f x) (not (isNan x)) p q
-
   module _ (b x : Float) (B : T (fits f b)) (X : T (fits f x)) (e : le b x ≡ true) where
     leg-not-less : (y : Float) → T (fits f y) → lt (hypot f x y) b ≡ false
     leg-not-less nan Y = no-number-less f b x
     leg-not-less (inf s) Y =
-        over f b x (inf s) (numbered b B (left-number b x e)) (numbered x X (right-number b x e)) (numbered (inf s) Y (unfold isNan in tt)) e
+        over f b x (inf s) (held-number f b B (left-number b x e)) (held-number f x X (right-number b x e)) (held-number f (inf s) Y (unfold isNan in tt)) e
     leg-not-less (fin s m i) Y =
-        over f b x (fin s m i) (numbered b B (left-number b x e)) (numbered x X (right-number b x e))
-        (numbered (fin s m i) Y (unfold isNan in tt)) e
+        over f b x (fin s m i) (held-number f b B (left-number b x e)) (held-number f x X (right-number b x e))
+        (held-number f (fin s m i) Y (unfold isNan in tt)) e
 
     leg-reaches : (y : Float) → T (number f y) → le b (hypot f x y) ≡ true
-    leg-reaches y Y = reached f b x y (numbered b B (left-number b x e)) (numbered x X (right-number b x e)) Y e
+    leg-reaches y Y = reached f b x y (held-number f b B (left-number b x e)) (held-number f x X (right-number b x e)) Y e
 
   -- b is held by the format, as the machine's own fact about a value says it
   module _ (b x y : Float) (B : fits f b ≡ true) (X : T (fits f x)) where
@@ -106,7 +97,7 @@ module _ (f : Format) where
 
     -- y is like itself, and so no NaN
     pub hypot-reaches : T (fits f y) → eq y y ≡ true → le b (abs x) ≡ true → le b (hypot f x y) ≡ true
-    hypot-reaches Y' s = let Y = numbered y Y' (like-number y s) in either (λ d. le b d ≡ true) (λ z Z e. leg-reaches b z (true→T B) Z e y Y)
+    hypot-reaches Y' s = let Y = held-number f y Y' (like-number y s) in either (λ d. le b d ≡ true) (λ z Z e. leg-reaches b z (true→T B) Z e y Y)
 
   module _ (b x y : Float) (B : fits f b ≡ true) (Y : T (fits f y)) where
     pub hypot-not-less-right : T (fits f x) → le b (abs y) ≡ true → lt (hypot f x y) b ≡ false

@@ -12,24 +12,14 @@ end-at-requires c κs = search needs
 segment-aabb-distance-requires : tie.Need-segment-aabb-distance-requires
 segment-aabb-distance-requires c κs = search needs
 
-nearer-of-requires : tie.Need-nearer-of-requires
-nearer-of-requires c κs = search needs
-
 returns : tie.Need-returns
 returns c =
     rw (
-      ← c .before .before .before .vertex-at .ensures,
-      ← c .before .before .end-at .ensures,
-      ← c .before .segment-aabb-distance .ensures,
-      ← c .nearer-of .ensures,
+      ← c .before .before .vertex-at .ensures,
+      ← c .before .end-at .ensures,
+      ← c .segment-aabb-distance .ensures,
     )
 
 pub gap-at-spec : {M : Type 1} → statement M
 gap-at-spec =
-    tie.close
-    (tie.spec
-    vertex-at-requires
-    end-at-requires
-    segment-aabb-distance-requires
-    nearer-of-requires
-    returns)
+    tie.close (tie.spec vertex-at-requires end-at-requires segment-aabb-distance-requires returns)

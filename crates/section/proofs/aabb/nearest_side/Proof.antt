@@ -4,9 +4,6 @@ use Rattle.profile.specs.Vertices.{upto}
 use Rattle.section.proofs.aabb.nearest_side.Statement.{statement}
 use Rattle.section.proofs.aabb.nearest_side.Tie as tie
 
-infinity-requires : tie.Need-infinity-requires
-infinity-requires c κs = search needs
-
 seg-seg-point-on-first-requires : tie.Need-seg-seg-point-on-first-requires
 seg-seg-point-on-first-requires c κs = search needs
 
@@ -23,7 +20,6 @@ returns : tie.Need-returns
 unfolding upto
 returns c =
     rw (
-      ← c .before .before .before .before .infinity .ensures,
       ← c .before .before .before .seg-seg-point-on-first .ensures,
       ← c .before .before .seg-seg-point-on-first2 .ensures,
       ← c .before .seg-seg-point-on-first3 .ensures,
@@ -34,7 +30,6 @@ pub nearest-side-spec : {M : Type 1} → statement M
 nearest-side-spec =
     tie.close
     (tie.spec
-    infinity-requires
     seg-seg-point-on-first-requires
     seg-seg-point-on-first-requires-2
     seg-seg-point-on-first-requires-3
