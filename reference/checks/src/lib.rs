@@ -8,6 +8,7 @@ pub mod mpfr;
 pub mod near;
 pub mod port;
 pub mod query;
-pub mod random;
 pub mod root_cases;
 pub mod shrink;
+
+pub use random;

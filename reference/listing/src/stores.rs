@@ -1,6 +1,7 @@
 //! Stores to list: 01's example, named cases, and generated and damaged ones.
 
 use crate::RECORD;
+use random::Random;
 
 /// next, kind, four numbers
 pub type Fields = (u32, u32, [f64; 4]);
@@ -32,24 +33,14 @@ pub fn example() -> Vec<u8> {
     in_order(&S, &[(3, [25.0, 30.0, 0.0, 5.0])])
 }
 
-/// Random numbers from a seed (splitmix64), so that every run can be repeated.
-pub struct Random(pub u64);
+/// Generated stores.
+pub struct Stores {
+    random: Random,
+}
 
-impl Random {
-    pub fn bits(&mut self) -> u64 {
-        self.0 = self.0.wrapping_add(0x9e37_79b9_7f4a_7c15);
-        let mut x = self.0;
-        x = (x ^ (x >> 30)).wrapping_mul(0xbf58_476d_1ce4_e5b9);
-        x = (x ^ (x >> 27)).wrapping_mul(0x94d0_49bb_1331_11eb);
-        x ^ (x >> 31)
-    }
-
-    pub fn below(&mut self, n: usize) -> usize {
-        (self.bits() % n as u64) as usize
-    }
-
-    pub fn pick<T: Copy>(&mut self, from: &[T]) -> T {
-        from[self.below(from.len())]
+impl Stores {
+    pub fn new(seed: u64) -> Stores {
+        Stores { random: Random::new(seed, 0) }
     }
 
     fn coordinate(&mut self) -> f64 {
@@ -67,33 +58,33 @@ impl Random {
             1e-12,
             1e300,
         ];
-        match self.below(40) {
-            0 => self.pick(&ODD),
-            1..=9 => self.below(41) as f64 - 20.0,
-            10 => f64::from_bits(self.bits()),
-            _ => (self.bits() >> 11) as f64 / 9007199254740992.0 * 60.0 - 20.0,
+        match self.random.below(40) {
+            0 => self.random.pick(&ODD),
+            1..=9 => self.random.below(41) as f64 - 20.0,
+            10 => f64::from_bits(self.random.bits()),
+            _ => (self.random.bits() >> 11) as f64 / 9007199254740992.0 * 60.0 - 20.0,
         }
     }
 
     fn radius(&mut self) -> f64 {
-        if self.below(8) == 0 { 0.0 } else { self.coordinate().abs() }
+        if self.random.below(8) == 0 { 0.0 } else { self.coordinate().abs() }
     }
 
     /// Vertices and bodies interleaved, in any order of records, with unreached ones between.
     pub fn store(&mut self) -> Vec<u8> {
-        let count = match self.below(60) {
+        let count = match self.random.below(60) {
             0 => 512,
-            1 => 300 + self.below(213),
-            2..=8 => 1 + self.below(100),
-            _ => 1 + self.below(14),
+            1 => 300 + self.random.below(213),
+            2..=8 => 1 + self.random.below(100),
+            _ => 1 + self.random.below(14),
         };
         let mut order: Vec<u32> = (1..count as u32).collect();
         for i in (1..order.len()).rev() {
-            order.swap(i, self.below(i + 1));
+            order.swap(i, self.random.below(i + 1));
         }
-        let unreached = self.below(4).min(order.len());
+        let unreached = self.random.below(4).min(order.len());
         order.truncate(order.len() - unreached);
-        let share = self.pick(&[2, 4, 6]);
+        let share = self.random.pick(&[2, 4, 6]);
         let mut records: Vec<Fields> = (0..count).map(|_| self.junk()).collect();
         let mut at = 0;
         records[0].1 = 0;
@@ -108,22 +99,22 @@ impl Random {
 
     fn junk(&mut self) -> Fields {
         (
-            self.bits() as u32 >> self.below(32),
-            self.below(9) as u32,
-            std::array::from_fn(|_| f64::from_bits(self.bits())),
+            self.random.bits() as u32 >> self.random.below(32),
+            self.random.below(9) as u32,
+            std::array::from_fn(|_| f64::from_bits(self.random.bits())),
         )
     }
 
     fn part(&mut self, share: usize) -> Fields {
-        if self.below(8) < share {
-            return (0, 1, [self.coordinate(), self.radius(), f64::from_bits(self.bits()), f64::NAN]);
+        if self.random.below(8) < share {
+            return (0, 1, [self.coordinate(), self.radius(), f64::from_bits(self.random.bits()), f64::NAN]);
         }
-        if self.below(2) == 0 {
-            let radius = if self.below(20) == 0 { -1.0 } else { self.radius() };
+        if self.random.below(2) == 0 {
+            let radius = if self.random.below(20) == 0 { -1.0 } else { self.radius() };
             return (0, 2, [self.coordinate(), self.coordinate(), self.coordinate(), radius]);
         }
         let (a, b, c, d) = (self.coordinate(), self.coordinate(), self.radius(), self.radius());
-        if self.below(16) == 0 {
+        if self.random.below(16) == 0 {
             return (0, 3, [a, b, c, d]);
         }
         (0, 3, [a.min(b), a.max(b), c.min(d), c.max(d)])
@@ -131,19 +122,22 @@ impl Random {
 
     /// One to three changes: a bit, a byte, a field, the length.
     pub fn damaged(&mut self, mut store: Vec<u8>) -> Vec<u8> {
-        for _ in 0..1 + self.below(3) {
+        for _ in 0..1 + self.random.below(3) {
             let records = store.len() / RECORD;
             if records == 0 {
                 return store;
             }
-            let k = self.below(records);
-            match self.below(7) {
-                0 => store[self.below(records * RECORD)] ^= 1 << self.below(8),
-                1 => store[self.below(records * RECORD)] = self.bits() as u8,
-                2 => store[k * RECORD..k * RECORD + 4].copy_from_slice(&(self.below(records + 2) as u32).to_le_bytes()),
-                3 => store[k * RECORD + 4..k * RECORD + 8].copy_from_slice(&(self.below(6) as u32).to_le_bytes()),
-                4 => store.truncate(self.below(store.len() + 1)),
-                5 => store.extend(std::iter::repeat_n(self.bits() as u8, self.below(90))),
+            let k = self.random.below(records);
+            match self.random.below(7) {
+                0 => store[self.random.below(records * RECORD)] ^= 1 << self.random.below(8),
+                1 => store[self.random.below(records * RECORD)] = self.random.bits() as u8,
+                2 => store[k * RECORD..k * RECORD + 4]
+                    .copy_from_slice(&(self.random.below(records + 2) as u32).to_le_bytes()),
+                3 => {
+                    store[k * RECORD + 4..k * RECORD + 8].copy_from_slice(&(self.random.below(6) as u32).to_le_bytes())
+                }
+                4 => store.truncate(self.random.below(store.len() + 1)),
+                5 => store.extend(std::iter::repeat_n(self.random.bits() as u8, self.random.below(90))),
                 _ => store[k * RECORD + 8..k * RECORD + 16].copy_from_slice(&self.coordinate().to_le_bytes()),
             }
         }

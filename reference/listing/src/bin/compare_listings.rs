@@ -2,7 +2,7 @@
 //! compare_listings PROGRAM [COUNT [SEED]]
 
 use listing_ref::listing;
-use listing_ref::stores::{Random, S, example, in_order};
+use listing_ref::stores::{S, Stores, example, in_order};
 use std::io::{Read, Write};
 use std::process::{Command, Stdio};
 
@@ -48,11 +48,11 @@ fn main() {
     let mut arguments = std::env::args().skip(1);
     let program = arguments.next().expect("compare_listings PROGRAM [COUNT [SEED]]");
     let count: usize = arguments.next().map_or(2_000, |x| x.parse().unwrap());
-    let mut random = Random(arguments.next().map_or(1, |x| x.parse().unwrap()));
+    let mut generated = Stores::new(arguments.next().map_or(1, |x| x.parse().unwrap()));
     let mut stores = named();
     for i in 0..count {
-        let store = random.store();
-        stores.push(if i % 2 == 0 { store } else { random.damaged(store) });
+        let store = generated.store();
+        stores.push(if i % 2 == 0 { store } else { generated.damaged(store) });
     }
     let (mut differences, mut longest) = (0, 0);
     let mut answers = std::collections::BTreeMap::new();
