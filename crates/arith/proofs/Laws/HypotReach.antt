@@ -70,13 +70,13 @@ no-number-less f (fin t n j) (fin s m i) = refl
 
 module _ (f : Format) where
   module _ (b x : Float) (B : T (fits f b)) (X : T (fits f x)) (e : le b x ≡ true) where
+    leg-over : (y : Float) → T (number f y) → lt (hypot f x y) b ≡ false
+    leg-over y Y = over f b x y (held-number f b B (left-number b x e)) (held-number f x X (right-number b x e)) Y e
+
     leg-not-less : (y : Float) → T (fits f y) → lt (hypot f x y) b ≡ false
     leg-not-less nan Y = no-number-less f b x
-    leg-not-less (inf s) Y =
-        over f b x (inf s) (held-number f b B (left-number b x e)) (held-number f x X (right-number b x e)) (held-number f (inf s) Y (unfold isNan in tt)) e
-    leg-not-less (fin s m i) Y =
-        over f b x (fin s m i) (held-number f b B (left-number b x e)) (held-number f x X (right-number b x e))
-        (held-number f (fin s m i) Y (unfold isNan in tt)) e
+    leg-not-less (inf s) Y = leg-over (inf s) (held-number f (inf s) Y (unfold isNan in tt))
+    leg-not-less (fin s m i) Y = leg-over (fin s m i) (held-number f (fin s m i) Y (unfold isNan in tt))
 
     leg-reaches : (y : Float) → T (number f y) → le b (hypot f x y) ≡ true
     leg-reaches y Y = reached f b x y (held-number f b B (left-number b x e)) (held-number f x X (right-number b x e)) Y e
@@ -97,7 +97,8 @@ module _ (f : Format) where
 
     -- y is like itself, and so no NaN
     pub hypot-reaches : T (fits f y) → eq y y ≡ true → le b (abs x) ≡ true → le b (hypot f x y) ≡ true
-    hypot-reaches Y' s = let Y = held-number f y Y' (like-number y s) in either (λ d. le b d ≡ true) (λ z Z e. leg-reaches b z (true→T B) Z e y Y)
+    hypot-reaches Y s =
+        either (λ d. le b d ≡ true) (λ z Z e. leg-reaches b z (true→T B) Z e y (held-number f y Y (like-number y s)))
 
   module _ (b x y : Float) (B : fits f b ≡ true) (Y : T (fits f y)) where
     pub hypot-not-less-right : T (fits f x) → le b (abs y) ≡ true → lt (hypot f x y) b ≡ false
