@@ -17,5 +17,6 @@ pub mod Hypot
 pub mod HypotKey
 pub mod HypotZero
 pub mod HypotReach
+pub mod HypotCorner
 pub mod Sqrt
 pub mod Constants

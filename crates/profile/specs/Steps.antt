@@ -1,11 +1,12 @@
 -- What the functions below the entry points compute on the way to the refusals and the builders. Assumes nothing.
 use Prim.Native.Nat.{ℕ, _+_, _*_}
-use mathlib.Core.Bool.{Bool, _&&_, cond}
+use mathlib.Core.Bool.{Bool, _&&_, cond, not}
 use mathlib.Core.List.{List, []}
 use lib.ListN.{set, take}
 use lib.Dec.{eqb, ltb}
 use lib.Ieee.{Float}
-use Rattle.arith.specs.F64.{𝟘}
+use Rattle.arith.specs.F64.{_≼_, 𝟘, limit}
+use Rattle.arith.specs.Num.{abs}
 use Rattle.profile.specs.Vertices.{vertex, count, vertexAt, upto}
 use Rattle.profile.specs.Builder.{samePoint, lastOf, keep, raised, filled}
 use Rattle.profile.specs.Refusals.{refuse, odd, fewer, more, numbersRefusal}
@@ -17,6 +18,10 @@ use Rattle.profile.specs.declared.shapes.Vertex.{Vertex}
 -- the lower of two numbers, 0 for none
 unfoldable pub lower : ℕ → ℕ → ℕ
 lower a b = cond (eqb a 0) b (cond (eqb b 0) a (cond (ltb a b) a b))
+
+-- over the limit, infinite or a NaN: number 4 or 5
+abbrev pub beyondLimit : Float → Bool
+beyondLimit x = not (abs x ≼ limit)
 
 -- numbers 1 to 5 of one list, of least to most vertices or points, otherwise what follows
 unfoldable pub listRefusal : ℕ → ℕ → List Float → ℕ → ℕ

@@ -7,7 +7,7 @@ ghost use Prim.Native.Nat.{_≤_};
 ghost use Rattle.arith.specs.F64.{_≺_};
 ghost use Rattle.profile.specs.Vertices.{count};
 ghost use Rattle.profile.specs.Refusals as refusals;
-ghost use Rattle.profile.specs.Steps.{lower, listRefusal};
+ghost use Rattle.profile.specs.Steps.{beyondLimit, lower, listRefusal};
 use super::shapes::Aabb;
 use super::shapes::Sphere;
 use arith::Vec3;
@@ -26,27 +26,29 @@ fn any_not_finite(l: &[f64]) -> bool
     false
 }
 
-fn any_over_limit(l: &[f64]) -> bool
-    ensures { λ r. ⌜ r ≡ refusals.anyOf refusals.overLimit (now (l .entry)) ⌝ }
+fn any_beyond_limit(l: &[f64]) -> bool
+    ensures { λ r. ⌜ r ≡ refusals.anyOf beyondLimit (now (l .entry)) ⌝ }
 {
     let mut i = 0;
     while i < l.len() {
-        if arith::abs(l[i]) > 1048576.0 {
+        if arith::abs(l[i]) <= 1048576.0 {
+            i += 1;
+        } else {
             return true;
         }
-        i += 1;
     }
     false
 }
 
-// Numbers 4 and 5, otherwise the body's own number.
+// Numbers 4 and 5, otherwise the body's own number. One look at each number is enough where all are
+// within the limit.
 fn numbers_refusal(given: &[f64], own: u32) -> u32
     ensures { λ r. ⌜ r ≡ refusals.numbersRefusal (now (given .entry)) own ⌝ }
 {
-    if any_not_finite(given) {
-        return 4;
-    }
-    if any_over_limit(given) {
+    if any_beyond_limit(given) {
+        if any_not_finite(given) {
+            return 4;
+        }
         return 5;
     }
     own

@@ -1,5 +1,8 @@
 // The box of a cylinder along the spindle, and the band of one across it: half width and span.
 ghost use mathlib.Core.Path.{_≡_};
+ghost use mathlib.Core.Bool.{cond};
+ghost use lib.Ieee.{neg};
+ghost use Rattle.arith.specs.F64.{_≼_};
 ghost use Rattle.arith.specs.Num.{min, clamp};
 ghost use Rattle.walk.specs.Band.{axialBox, bandOf, halfWidth, rectangleSpan, span, spanAt, toward0};
 use super::shapes::Cylinder;
@@ -32,17 +35,36 @@ fn closest_to_zero(lo: f64, hi: f64) -> f64
     if hi < 0.0 { hi } else { 0.0 }
 }
 
+// Of the numbers from lo to hi the one farthest from 0.
+fn farthest_from_zero(lo: f64, hi: f64) -> f64
+    ensures { λ r. ⌜ r ≡ cond (hi ≼ neg lo) lo hi ⌝ }
+{
+    if hi <= -lo { lo } else { hi }
+}
+
+// The greatest radius of the four corners. Where the ends are in order one corner has it; others are
+// left to the definition.
+fn greatest_radius(x0: f64, x1: f64, y0: f64, y1: f64) -> f64
+    ensures { λ r. ⌜ r ≡ rectangleSpan x0 x1 y0 y1 .hi ⌝ }
+{
+    if x0 <= x1 {
+        if y0 <= y1 {
+            return arith::hypot(farthest_from_zero(x0, x1), farthest_from_zero(y0, y1));
+        }
+    }
+    let first = arith::max(arith::hypot(x0, y0), arith::hypot(x0, y1));
+    let second = arith::max(first, arith::hypot(x1, y0));
+    arith::max(second, arith::hypot(x1, y1))
+}
+
 // The least and the greatest radius of the rectangle x0..x1, y0..y1.
 fn radius_span(x0: f64, x1: f64, y0: f64, y1: f64) -> Span
     ensures { λ r. ⌜ r ≡ rectangleSpan x0 x1 y0 y1 ⌝ }
 {
-    let lo = arith::hypot(closest_to_zero(x0, x1), closest_to_zero(y0, y1));
-    let first = arith::max(arith::hypot(x0, y0), arith::hypot(x0, y1));
-    let hi = arith::max(
-        arith::max(first, arith::hypot(x1, y0)),
-        arith::hypot(x1, y1),
-    );
-    Span { lo, hi }
+    Span {
+        lo: arith::hypot(closest_to_zero(x0, x1), closest_to_zero(y0, y1)),
+        hi: greatest_radius(x0, x1, y0, y1),
+    }
 }
 
 impl RadialBand {

@@ -1,20 +1,21 @@
 -- What has few enough digits is its own rounding: x itself, x + c against x, twice x; and two values of one sign and size are one.
 -- Assumes nothing.
 use Prim.Native.Nat.{_*_, _+_, _-_, _/_, _<_, _^_, min, suc, ℕ, _≤_}
-use mathlib.Core.Bool.{Bool, cond, false, true}
+use mathlib.Core.Bool.{Bool, cond, false, not, true}
 use mathlib.Core.Path.{ap, refl, subst, sym, _∙_, _≡_}
-use native.Mathlib.Nat.{le-of-eq, le-of-lt, le-trans, min-eq-right, mul-add, mul-div-cancel, mul-one, two-pow-succ}
+use native.Mathlib.Nat.{le-of-eq, le-of-lt, le-trans, min-eq-right, mul-add, mul-div-cancel, mul-one, not-le-of-lt}
+use native.Mathlib.Nat.{two-pow-succ}
 use native.Mathlib.Omega.{arith}
 use lib.Dec.{T}
-use lib.Ieee.{add, down, fin, fits, Float, Format, hid, inf, low, nan, prec, size, toBits, top, le}
+use lib.Ieee.{add, down, fin, fits, Float, Format, hid, inf, isNan, low, nan, prec, size, toBits, top, le}
 use lib.Ieee.Bits.{ofBits-toBits}
 use lib.Ieee.Exact.{HasValue}
-use lib.Ieee.Fits.{down-pos}
+use lib.Ieee.Fits.{and-l, and-r, down-pos}
+use lib.IntN.{ℤ}
 use lib.Pow.{pow-pos}
 use Rattle.roots.proofs.Rounding.Fraction.{rounded, rounded-fix}
-use Rattle.roots.proofs.Rounding.Key.{finiteNumber, key, key-is, magnitude, mid, negative, Representable}
-use Rattle.roots.proofs.Rounding.Key.{number-of}
-use Rattle.roots.proofs.Rounding.Key.{representable-of, side}
+use Rattle.roots.proofs.Rounding.Key.{finiteNumber, key, key-is, magnitude, magnitude-le, mid, negative}
+use Rattle.roots.proofs.Rounding.Key.{number, number-of, Representable, representable, representable-of, side, unit}
 use Rattle.roots.proofs.Rounding.RoundKey.{Difference, roundKey, roundKey-mono, roundKey-side}
 use Rattle.roots.proofs.Rounding.Sum.{add-key, add-number}
 use Rattle.roots.proofs.Rounding.KeyOrder.{key→le}
@@ -99,3 +100,39 @@ pub value-unique : (f : Format) (x y : Float) (s : Bool) (a : ℕ) → T (fits f
     → HasValue x s a (2 ^ low f) → HasValue y s a (2 ^ low f) → x ≡ y
 value-unique f x y s a p q h k = sym (ofBits-toBits f x p) ∙ ap (λ (z : ℕ). lib.Ieee.ofBits f z)
     (bits-of f x s a h ∙ sym (bits-of f y s a k)) ∙ ofBits-toBits f y q
+
+-- two numbers of one sign and one key are one
+same-size : (M t u : ℕ) (s : Bool) → t ≤ M → u ≤ M → side M s t ≡ side M s u → t ≡ u
+same-size M t u false x y e = omega arith
+same-size M t u true x y e = omega arith
+
+finite-value : (f : Format) (s : Bool) (m : ℕ) (e : ℤ) → T (number f (fin s m e)) → Representable f (fin s m e)
+finite-value f s m e p = representable f (fin s m e) tt (and-l (fits f (fin s m e)) (not (isNan (fin s m e))) p)
+
+below-mid : (f : Format) (s : Bool) (m : ℕ) (e : ℤ) → T (number f (fin s m e)) → mid f ≡ magnitude f (fin s m e) → ⊥
+below-mid f s m e p k = not-le-of-lt (finite-value f s m e p .small) (le-of-eq k)
+
+one-of-size : (f : Format) (x y : Float) → T (number f x) → T (number f y) → negative x ≡ negative y
+    → magnitude f x ≡ magnitude f y → x ≡ y
+unfolding isNan magnitude unit
+one-of-size f nan y p q s e = absurd (and-r (fits f nan) false p)
+one-of-size f (inf s) nan p q e k = absurd (and-r (fits f nan) false q)
+one-of-size f (inf s) (inf t) p q e k = ap (λ (b : Bool). inf b) e
+one-of-size f (inf s) (fin t n j) p q e k = absurd (below-mid f t n j q k)
+one-of-size f (fin s m i) nan p q e k = absurd (and-r (fits f nan) false q)
+one-of-size f (fin s m i) (inf t) p q e k = absurd (below-mid f s m i p (sym k))
+one-of-size f (fin s m i) (fin t n j) p q e k =
+    value-unique f (fin s m i) (fin t n j) s (magnitude f (fin s m i)) (held (fin s m i) p)
+    (held (fin t n j) q)
+    (finite-value f s m i p .value)
+    (subst (λ (b : Bool). HasValue (fin t n j) b (magnitude f (fin s m i)) (2 ^ low f)) (sym e)
+    (subst (λ (a : ℕ). HasValue (fin t n j) t a (2 ^ low f)) (sym k) (finite-value f t n j q .value)))
+  where
+    held : (x : Float) → T (number f x) → T (fits f x)
+    held x h = and-l (fits f x) (not (isNan x)) h
+
+pub key-unique : (f : Format) (x y : Float) → T (number f x) → T (number f y) → negative x ≡ negative y
+    → key f x ≡ key f y → x ≡ y
+key-unique f x y p q s e = one-of-size f x y p q s
+    (same-size (mid f) (magnitude f x) (magnitude f y) (negative x) (magnitude-le f x p) (magnitude-le f y q)
+    (sym (key-is f x) ∙ e ∙ key-is f y ∙ ap (λ (t : Bool). side (mid f) t (magnitude f y)) (sym s)))

@@ -16,7 +16,7 @@ use Rattle.roots.proofs.Rounding.Key.{representable-of, side, unit}
 use Rattle.roots.proofs.Rounding.KeyOrder.{key→le, le→key}
 use Rattle.roots.proofs.Squares.{square}
 use Rattle.roots.specs.Roots.{hypot, root, sqrt, ticks}
-use Rattle.arith.proofs.Laws.NearestRoot.{NearestRoot, root-nearest}
+use Rattle.arith.proofs.Laws.NearestRoot.{NearestRoot, root-nearest, root-plus}
 
 -- IEEE 754's abs: the sign is cleared
 abbrev pub unsigned : Float → Float
@@ -110,6 +110,17 @@ hypot-number f x y p q = go (kind f x p) (kind f y q)
     go (usual a b) (infinite s e) = like (hypot-comm f x y ∙ hypot-inf f y x s e) (inf-number f false)
     go (usual a b) (usual c d) = like (hypot-root f x y a c) (root-number f
         (magnitude f x * magnitude f x + magnitude f y * magnitude f y))
+
+-- ---- never below 0, and no -0
+pub hypot-plus : (f : Format) (x y : Float) → negative (hypot f x y) ≡ false
+unfolding hypot
+hypot-plus f nan nan = refl
+hypot-plus f nan (inf t) = refl
+hypot-plus f nan (fin t n d) = refl
+hypot-plus f (inf s) y = refl
+hypot-plus f (fin s m e) nan = refl
+hypot-plus f (fin s m e) (inf t) = refl
+hypot-plus f (fin s m e) (fin t n d) = root-plus f (ticks f (fin s m e) ^ 2 + ticks f (fin t n d) ^ 2)
 
 -- ---- sizes
 pub unsigned-key : (f : Format) (x : Float) → T (number f x) → key f (unsigned x) ≡ mid f + magnitude f x

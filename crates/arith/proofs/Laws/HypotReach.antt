@@ -13,7 +13,7 @@ use Rattle.roots.proofs.Rounding.KeyOrder.{key→le}
 use Rattle.arith.specs.F64.{𝟘}
 use Rattle.arith.specs.Num.{abs}
 use Rattle.arith.proofs.Laws.Order.{le-trans-float, lt-is-not-le}
-use Rattle.arith.proofs.Laws.OrderHeld.{T→true, true→T, held-number}
+use Rattle.arith.proofs.Laws.OrderHeld.{T→true, true→T, held-number, le-left, le-right}
 use Rattle.arith.proofs.Laws.Hypot.{hypot-comm, hypot-ge, hypot-neg, hypot-number, unsigned, unsigned-key, unsigned-number}
 
 at-most : (m a : ℕ) (s : Bool) → side m s a ≤ m + a
@@ -33,22 +33,6 @@ module _ (f : Format) (b x y : Float) (B : T (number f b)) (X : T (number f x)) 
 
   over : le b x ≡ true → lt (hypot f x y) b ≡ false
   over e = lt-is-not-le f (hypot f x y) b (hypot-number f x y X Y) B ∙ ap not (reached e)
-
-left-number : (b x : Float) → le b x ≡ true → T (not (isNan b))
-unfolding le isNan
-left-number nan x e = absurd (true→T e)
-left-number (inf s) x e = tt
-left-number (fin s m i) x e = tt
-
-right-number : (b x : Float) → le b x ≡ true → T (not (isNan x))
-unfolding le isNan
-right-number nan x e = absurd (true→T e)
-right-number (inf s) nan e = absurd (true→T e)
-right-number (inf s) (inf t) e = tt
-right-number (inf s) (fin t n j) e = tt
-right-number (fin s m i) nan e = absurd (true→T e)
-right-number (fin s m i) (inf t) e = tt
-right-number (fin s m i) (fin t n j) e = tt
 
 like-number : (x : Float) → eq x x ≡ true → T (not (isNan x))
 unfolding eq isNan
@@ -71,7 +55,7 @@ no-number-less f (fin t n j) (fin s m i) = refl
 module _ (f : Format) where
   module _ (b x : Float) (B : T (fits f b)) (X : T (fits f x)) (e : le b x ≡ true) where
     leg-over : (y : Float) → T (number f y) → lt (hypot f x y) b ≡ false
-    leg-over y Y = over f b x y (held-number f b B (left-number b x e)) (held-number f x X (right-number b x e)) Y e
+    leg-over y Y = over f b x y (held-number f b B (le-left b x e)) (held-number f x X (le-right b x e)) Y e
 
     leg-not-less : (y : Float) → T (fits f y) → lt (hypot f x y) b ≡ false
     leg-not-less nan Y = no-number-less f b x
@@ -79,7 +63,7 @@ module _ (f : Format) where
     leg-not-less (fin s m i) Y = leg-over (fin s m i) (held-number f (fin s m i) Y (unfold isNan in tt))
 
     leg-reaches : (y : Float) → T (number f y) → le b (hypot f x y) ≡ true
-    leg-reaches y Y = reached f b x y (held-number f b B (left-number b x e)) (held-number f x X (right-number b x e)) Y e
+    leg-reaches y Y = reached f b x y (held-number f b B (le-left b x e)) (held-number f x X (le-right b x e)) Y e
 
   -- b is held by the format, as the machine's own fact about a value says it
   module _ (b x y : Float) (B : fits f b ≡ true) (X : T (fits f x)) where

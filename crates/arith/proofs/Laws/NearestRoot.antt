@@ -82,7 +82,7 @@ unfolding odd
 odd-plus d zero k l = refl
 odd-plus d (suc q) k l = refl
 
-root-plus : (f : Format) (n : ℕ) → negative (root f n) ≡ false
+pub root-plus : (f : Format) (n : ℕ) → negative (root f n) ≡ false
 unfolding root
 root-plus f n = units-plus _ _
   where

@@ -1,18 +1,29 @@
 -- The order of floats: total on numbers, transitive, and what min, max and clamp are in it. Assumes nothing.
-use Prim.Native.Nat.{_<_, max, min, ℕ, _≤_}
+use Prim.Native.Nat.{_*_, _+_, _<_, max, min, suc, ℕ, _≤_}
 use mathlib.Core.Bool.{Bool, cond, false, not, true, Bool·beq, _||_}
 use mathlib.Core.Logic.{inl, inr, _⊎_}
 use mathlib.Core.Path.{ap, refl, subst, sym, _∙_, _≡_}
 use native.Mathlib.Nat.{le-antisymm, not-le-of-lt, zero-mul}
 use native.Mathlib.Omega.{arith}
 use lib.Dec.{leb, leb→le, ltb, ltb→lt, lt→ltb, nleb→lt, T}
-use lib.Ieee.{eq, Float, Format, le, lt, fin, down, up}
+use lib.Ieee.{below, down, eq, fin, Float, Format, le, level, lt, up}
 use lib.Ieee.Fits.{eq→eqb}
 use Rattle.roots.proofs.Numbers.{decide}
-use Rattle.roots.proofs.Rounding.Key.{key, number}
-use Rattle.roots.proofs.Rounding.KeyOrder.{eq-key, key→le, key→lt, le-key, le→key, lt-key, lt→key, nlt→key}
+use Rattle.roots.proofs.Rounding.Key.{key, number, side}
+use Rattle.roots.proofs.Rounding.KeyOrder.{eq-key, key→le, key→lt, le-key, le→key, lt-key, lt→key, nlt→key, side-eq}
+use Rattle.roots.proofs.Rounding.KeyOrder.{side-lt}
+use Rattle.roots.proofs.Tests.{lt-or-eq}
 use Rattle.arith.specs.Num.{clamp}
 use lib.IntN.{ℤ}
+
+flip : (a b : ℕ) → ltb a b ≡ not (leb b a)
+flip a b = go (leb b a) (leb→le b a) (nleb→lt b a) (ltb a b) (ltb→lt a b) (lt→ltb a b)
+  where
+    go : (s : Bool) → (T s → b ≤ a) → (T (not s) → a < b) → (t : Bool) → (T t → a < b) → (a < b → T t) → t ≡ not s
+    go true h k true x y = absurd (not-le-of-lt (x tt) (h tt))
+    go true h k false x y = refl
+    go false h k true x y = refl
+    go false h k false x y = absurd (y (k tt))
 
 module _ (f : Format) (x y : Float) (p : T (number f x)) (q : T (number f y)) where
   pub le-or-lt : T (le x y) ⊎ T (lt y x)
@@ -24,15 +35,6 @@ module _ (f : Format) (x y : Float) (p : T (number f x)) (q : T (number f y)) wh
 
   pub lt-is-not-le : lt x y ≡ not (le y x)
   lt-is-not-le = lt-key f x y p q ∙ flip (key f x) (key f y) ∙ ap not (sym (le-key f y x q p))
-    where
-      flip : (a b : ℕ) → ltb a b ≡ not (leb b a)
-      flip a b = go (leb b a) (leb→le b a) (nleb→lt b a) (ltb a b) (ltb→lt a b) (lt→ltb a b)
-        where
-          go : (s : Bool) → (T s → b ≤ a) → (T (not s) → a < b) → (t : Bool) → (T t → a < b) → (a < b → T t) → t ≡ not s
-          go true h k true x y = absurd (not-le-of-lt (x tt) (h tt))
-          go true h k false x y = refl
-          go false h k true x y = refl
-          go false h k false x y = absurd (y (k tt))
 
 module _ (f : Format) (x y z : Float) (p : T (number f x)) (q : T (number f y)) (r : T (number f z)) where
   pub le-trans-float : T (le x y) → T (le y z) → T (le x z)
@@ -40,6 +42,22 @@ module _ (f : Format) (x y z : Float) (p : T (number f x)) (q : T (number f y)) 
 
   pub lt-le-trans : T (lt x y) → T (le y z) → T (lt x z)
   lt-le-trans h k = key→lt f x z p r (omega (arith, lt→key f x y p q h, le→key f y z q r k))
+
+-- lt is not-le turned round for any two finite values, whatever the format
+pub finite-lt-is-not-le : (s t : Bool) (m n : ℕ) (e d : ℤ)
+    → lt (fin s m e) (fin t n d) ≡ not (le (fin t n d) (fin s m e))
+unfolding lt le eq
+finite-lt-is-not-le s t m n e d = go (m * up e * down d) (n * up d * down e)
+  where
+    go : (a b : ℕ) → below s a t b ≡ not (below t b s a || level t b s a)
+    go a b =
+        let M = suc (a + b) in
+        rw (
+          side-lt M a b (omega arith) (omega arith) (omega arith) s t,
+          side-lt M b a (omega arith) (omega arith) (omega arith) t s,
+          side-eq M b a (omega arith) (omega arith) (omega arith) t s,
+          lt-or-eq (side M t b) (side M s a),
+        ) (flip (side M s a) (side M t b))
 
 -- zeros of both signs are equal
 pub zeros-equal : (s t : Bool) (e d : ℤ) → eq (fin s 0 e) (fin t 0 d) ≡ true

@@ -5,7 +5,7 @@ use mathlib.Core.Bool.{Bool, true, false, not}
 use mathlib.Core.Path.{_≡_, refl, subst, sym, _∙_}
 use borrow.Author.Tests.{le-ltb}
 use lib.Dec.{T}
-use lib.Ieee.{Float, Format, nan, inf, fin, fits, isNan, lt}
+use lib.Ieee.{Float, Format, nan, inf, fin, fits, isNan, le, lt}
 use lib.Ieee.Fits.{and-i}
 use Rattle.roots.proofs.Rounding.Key.{key, number}
 use Rattle.roots.proofs.Rounding.KeyOrder.{key→lt, lt-key, lt→key, nlt→key}
@@ -32,6 +32,22 @@ lt-right (inf s) (fin t n j) e = tt
 lt-right (fin s m i) nan e = absurd (true→T e)
 lt-right (fin s m i) (inf t) e = tt
 lt-right (fin s m i) (fin t n j) e = tt
+
+pub le-left : (x y : Float) → le x y ≡ true → T (not (isNan x))
+unfolding le isNan
+le-left nan y e = absurd (true→T e)
+le-left (inf s) y e = tt
+le-left (fin s m i) y e = tt
+
+pub le-right : (x y : Float) → le x y ≡ true → T (not (isNan y))
+unfolding le isNan
+le-right nan y e = absurd (true→T e)
+le-right (inf s) nan e = absurd (true→T e)
+le-right (inf s) (inf t) e = tt
+le-right (inf s) (fin t n j) e = tt
+le-right (fin s m i) nan e = absurd (true→T e)
+le-right (fin s m i) (inf t) e = tt
+le-right (fin s m i) (fin t n j) e = tt
 
 module _ (f : Format) where
   pub held-number : (x : Float) → T (fits f x) → T (not (isNan x)) → T (number f x)

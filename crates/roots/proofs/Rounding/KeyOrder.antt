@@ -77,15 +77,16 @@ fin-inf-eq M u h false true = no-eq (M + u) (M - M) (omega arith)
 fin-inf-eq M u h true false = no-eq (M - u) (M + M) (omega arith)
 fin-inf-eq M u h true true = no-eq (M - u) (M - M) (omega arith)
 
+-- the order of signed whole numbers is that of their places about M
 module _ (M t u : ℕ) (P : 0 < M) (x : t ≤ M) (y : u ≤ M) where
-  side-lt : (s s' : Bool) → below s t s' u ≡ ltb (side M s t) (side M s' u)
+  pub side-lt : (s s' : Bool) → below s t s' u ≡ ltb (side M s t) (side M s' u)
   side-lt false false = ltb-iff t u (M + t) (M + u) (omega arith) (omega arith)
   side-lt false true = bool-ext false (ltb (M + t) (M - u)) (λ (h : ⊥). absurd h)
       (λ h. let k : M + t < M - u = ltb→lt (M + t) (M - u) h in let c : ⊥ = omega arith in c)
   side-lt true false = ltb-iff 0 (t + u) (M - t) (M + u) (omega arith) (omega arith)
   side-lt true true = ltb-iff u t (M - t) (M - u) (omega arith) (omega arith)
 
-  side-eq : (s s' : Bool) → level s t s' u ≡ eqb (side M s t) (side M s' u)
+  pub side-eq : (s s' : Bool) → level s t s' u ≡ eqb (side M s t) (side M s' u)
   side-eq false false = and-true (eqb t u) ∙ eqb-iff t u (M + t) (M + u) (omega arith) (omega arith)
   side-eq false true = and-eqb t u t 0 (M + t) (M - u) (λ (h : t ≡ u) (k : t ≡ 0). omega arith)
       (λ (h : M + t ≡ M - u). omega arith)

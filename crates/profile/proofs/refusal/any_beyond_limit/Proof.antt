@@ -1,15 +1,16 @@
--- `profile::refusal::any_over_limit` meets its contract: what is not yet tried decides for the whole list. Assumes nothing.
+-- `profile::refusal::any_beyond_limit` meets its contract: what is not yet tried decides for the whole list. Assumes nothing.
 use Prim.Native.Nat.{_≤_, _-_}
 use mathlib.Core.Path.{_≡_}
 use lib.ListN.{length, drop}
 use borrow.Author.Needs.{needs}
-use Rattle.profile.specs.Refusals.{anyOf, overLimit}
+use Rattle.profile.specs.Refusals.{anyOf}
+use Rattle.profile.specs.Steps.{beyondLimit}
 use Rattle.profile.proofs.Refusals.AnyOf.{any-of-more, any-of-at, any-of-end}
-use Rattle.profile.proofs.refusal.any_over_limit.Statement.{statement}
-use Rattle.profile.proofs.refusal.any_over_limit.Tie as tie
+use Rattle.profile.proofs.refusal.any_beyond_limit.Statement.{statement}
+use Rattle.profile.proofs.refusal.any_beyond_limit.Tie as tie
 
 abbrev Inv-loop : tie.InvT-loop
-Inv-loop l i₀ i = (i ≤ length l) × (anyOf overLimit (drop i l) ≡ anyOf overLimit l)
+Inv-loop l i₀ i = (i ≤ length l) × (anyOf beyondLimit (drop i l) ≡ anyOf beyondLimit l)
 
 abbrev μ-loop : tie.MeasureT-loop
 μ-loop l i₀ i = length l - i
@@ -26,12 +27,6 @@ shared-slice-read-abs c = search needs
 abs-requires : tie.Need-abs-requires Inv-loop μ-loop
 abs-requires c κs = search needs
 
-returns : tie.Need-returns Inv-loop μ-loop
-returns c =
-    any-of-at _ _ _ (c .before .before .before .before .loop .inv .1)
-    (c .before .before .before .loop-test .taken)
-    (rw (← c .before .abs .ensures, c .if1 .taken))
-
 add-i : tie.Need-add-i Inv-loop μ-loop
 add-i c = search needs
 
@@ -43,14 +38,20 @@ loop-again c = (
   search needs,
   any-of-more _ _ _ (c .before .before .before .before .loop .inv .1)
       (c .before .before .before .loop-test .taken)
-      (rw (← c .before .abs .ensures, c .if1 .left)),
+      (rw (← c .before .abs .ensures, c .if1 .taken)),
 )
+
+returns : tie.Need-returns Inv-loop μ-loop
+returns c =
+    any-of-at _ _ _ (c .before .before .before .before .loop .inv .1)
+    (c .before .before .before .loop-test .taken)
+    (rw (← c .before .abs .ensures, c .if1 .left))
 
 returns-2 : tie.Need-returns-2 Inv-loop μ-loop
 returns-2 c = any-of-end _ _ _ (c .before .loop .inv .1) (c .loop-test .left)
 
-pub any-over-limit-spec : {M : Type 1} → statement M
-any-over-limit-spec =
+pub any-beyond-limit-spec : {M : Type 1} → statement M
+any-beyond-limit-spec =
     tie.close
     (tie.spec
     Inv-loop
@@ -59,8 +60,8 @@ any-over-limit-spec =
     mul-abs
     shared-slice-read-abs
     abs-requires
-    returns
     add-i
     loop-less
     loop-again
+    returns
     returns-2)
