@@ -1,8 +1,8 @@
--- `capi::jorghipa_verdict_box` meets its contract: the verdict's case in the lent place. Assumes nothing.
+-- `capi::verdicts::jorghipa_verdict_box` meets its contract: the verdict's case in the lent place. Assumes nothing.
 use borrow.Author.Needs.{needs}
 use Rattle.capi.proofs.Same.{judges}
-use Rattle.capi.proofs.jorghipa_verdict_box.Statement.{statement}
-use Rattle.capi.proofs.jorghipa_verdict_box.Tie as tie
+use Rattle.capi.proofs.verdicts.jorghipa_verdict_box.Statement.{statement}
+use Rattle.capi.proofs.verdicts.jorghipa_verdict_box.Tie as tie
 
 verdict-box-requires : tie.Need-verdict-box-requires
 verdict-box-requires c κs = search needs

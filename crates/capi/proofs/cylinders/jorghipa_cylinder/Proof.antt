@@ -1,9 +1,9 @@
--- `capi::jorghipa_cylinder` meets its contract: the answer's case in the lent places; the counts fit by demand 3. Assumes nothing.
+-- `capi::cylinders::jorghipa_cylinder` meets its contract: the answer's case in the lent places; the counts fit by demand 3. Assumes nothing.
 use borrow.Author.Needs.{needs}
 use mathlib.Core.Path.{sym, _∙_}
 use Rattle.capi.proofs.Same.{few, walked, not-walked}
-use Rattle.capi.proofs.jorghipa_cylinder.Statement.{statement}
-use Rattle.capi.proofs.jorghipa_cylinder.Tie as tie
+use Rattle.capi.proofs.cylinders.jorghipa_cylinder.Statement.{statement}
+use Rattle.capi.proofs.cylinders.jorghipa_cylinder.Tie as tie
 
 query-cylinder-requires : tie.Need-query-cylinder-requires
 query-cylinder-requires c κs = search needs

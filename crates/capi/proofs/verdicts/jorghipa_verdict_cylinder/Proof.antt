@@ -1,8 +1,8 @@
--- `capi::jorghipa_verdict_cylinder` meets its contract: the verdict's case in the lent place. Assumes nothing.
+-- `capi::verdicts::jorghipa_verdict_cylinder` meets its contract: the verdict's case in the lent place. Assumes nothing.
 use borrow.Author.Needs.{needs}
 use Rattle.capi.proofs.Same.{judges}
-use Rattle.capi.proofs.jorghipa_verdict_cylinder.Statement.{statement}
-use Rattle.capi.proofs.jorghipa_verdict_cylinder.Tie as tie
+use Rattle.capi.proofs.verdicts.jorghipa_verdict_cylinder.Statement.{statement}
+use Rattle.capi.proofs.verdicts.jorghipa_verdict_cylinder.Tie as tie
 
 verdict-cylinder-requires : tie.Need-verdict-cylinder-requires
 verdict-cylinder-requires c κs = search needs

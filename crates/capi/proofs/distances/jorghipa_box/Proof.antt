@@ -1,8 +1,8 @@
--- `capi::jorghipa_box` meets its contract: the answer's case in the lent places. Assumes nothing.
+-- `capi::distances::jorghipa_box` meets its contract: the answer's case in the lent places. Assumes nothing.
 use borrow.Author.Needs.{needs}
 use Rattle.capi.proofs.Same.{gives}
-use Rattle.capi.proofs.jorghipa_box.Statement.{statement}
-use Rattle.capi.proofs.jorghipa_box.Tie as tie
+use Rattle.capi.proofs.distances.jorghipa_box.Statement.{statement}
+use Rattle.capi.proofs.distances.jorghipa_box.Tie as tie
 
 aabb-polygon-distance-requires : tie.Need-aabb-polygon-distance-requires
 aabb-polygon-distance-requires c κs = search needs

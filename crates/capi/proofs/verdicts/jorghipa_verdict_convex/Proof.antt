@@ -1,8 +1,8 @@
--- `capi::jorghipa_verdict_convex` meets its contract: the verdict's case in the lent place. Assumes nothing.
+-- `capi::verdicts::jorghipa_verdict_convex` meets its contract: the verdict's case in the lent place. Assumes nothing.
 use borrow.Author.Needs.{needs}
 use Rattle.capi.proofs.Same.{judges}
-use Rattle.capi.proofs.jorghipa_verdict_convex.Statement.{statement}
-use Rattle.capi.proofs.jorghipa_verdict_convex.Tie as tie
+use Rattle.capi.proofs.verdicts.jorghipa_verdict_convex.Statement.{statement}
+use Rattle.capi.proofs.verdicts.jorghipa_verdict_convex.Tie as tie
 
 verdict-convex-requires : tie.Need-verdict-convex-requires
 verdict-convex-requires c κs = search needs

@@ -1,8 +1,8 @@
--- `capi::jorghipa_point` meets its contract: the answer's case in the lent places. Assumes nothing.
+-- `capi::distances::jorghipa_point` meets its contract: the answer's case in the lent places. Assumes nothing.
 use borrow.Author.Needs.{needs}
 use Rattle.capi.proofs.Same.{gives}
-use Rattle.capi.proofs.jorghipa_point.Statement.{statement}
-use Rattle.capi.proofs.jorghipa_point.Tie as tie
+use Rattle.capi.proofs.distances.jorghipa_point.Statement.{statement}
+use Rattle.capi.proofs.distances.jorghipa_point.Tie as tie
 
 signed-distance-requires : tie.Need-signed-distance-requires
 signed-distance-requires c κs = search needs

@@ -1,8 +1,8 @@
--- `capi::jorghipa_sphere` meets its contract: the answer's case in the lent places. Assumes nothing.
+-- `capi::distances::jorghipa_sphere` meets its contract: the answer's case in the lent places. Assumes nothing.
 use borrow.Author.Needs.{needs}
 use Rattle.capi.proofs.Same.{gives}
-use Rattle.capi.proofs.jorghipa_sphere.Statement.{statement}
-use Rattle.capi.proofs.jorghipa_sphere.Tie as tie
+use Rattle.capi.proofs.distances.jorghipa_sphere.Statement.{statement}
+use Rattle.capi.proofs.distances.jorghipa_sphere.Tie as tie
 
 query-sphere-requires : tie.Need-query-sphere-requires
 query-sphere-requires c κs = search needs

@@ -1,8 +1,8 @@
--- `capi::jorghipa_build_section` meets its contract: the answer's case, and the space as the builder leaves it. Assumes nothing.
+-- `capi::builders::jorghipa_build_section` meets its contract: the answer's case, and the space as the builder leaves it. Assumes nothing.
 use borrow.Author.Needs.{needs}
 use Rattle.capi.proofs.Same.{builds}
-use Rattle.capi.proofs.jorghipa_build_section.Statement.{statement}
-use Rattle.capi.proofs.jorghipa_build_section.Tie as tie
+use Rattle.capi.proofs.builders.jorghipa_build_section.Statement.{statement}
+use Rattle.capi.proofs.builders.jorghipa_build_section.Tie as tie
 
 write-section-requires : tie.Need-write-section-requires
 write-section-requires c κs = search needs

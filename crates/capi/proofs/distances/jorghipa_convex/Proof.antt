@@ -1,8 +1,8 @@
--- `capi::jorghipa_convex` meets its contract: the answer's case in the lent places. Assumes nothing.
+-- `capi::distances::jorghipa_convex` meets its contract: the answer's case in the lent places. Assumes nothing.
 use borrow.Author.Needs.{needs}
 use Rattle.capi.proofs.Same.{gives}
-use Rattle.capi.proofs.jorghipa_convex.Statement.{statement}
-use Rattle.capi.proofs.jorghipa_convex.Tie as tie
+use Rattle.capi.proofs.distances.jorghipa_convex.Statement.{statement}
+use Rattle.capi.proofs.distances.jorghipa_convex.Tie as tie
 
 convex-polygon-distance-requires : tie.Need-convex-polygon-distance-requires
 convex-polygon-distance-requires c κs = search needs

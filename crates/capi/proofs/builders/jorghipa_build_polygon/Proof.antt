@@ -1,8 +1,8 @@
--- `capi::jorghipa_build_polygon` meets its contract: the answer's case, and the space as the builder leaves it. Assumes nothing.
+-- `capi::builders::jorghipa_build_polygon` meets its contract: the answer's case, and the space as the builder leaves it. Assumes nothing.
 use borrow.Author.Needs.{needs}
 use Rattle.capi.proofs.Same.{builds}
-use Rattle.capi.proofs.jorghipa_build_polygon.Statement.{statement}
-use Rattle.capi.proofs.jorghipa_build_polygon.Tie as tie
+use Rattle.capi.proofs.builders.jorghipa_build_polygon.Statement.{statement}
+use Rattle.capi.proofs.builders.jorghipa_build_polygon.Tie as tie
 
 write-polygon-requires : tie.Need-write-polygon-requires
 write-polygon-requires c κs = search needs

@@ -1,8 +1,8 @@
--- `capi::jorghipa_verdict_sphere` meets its contract: the verdict's case in the lent place. Assumes nothing.
+-- `capi::verdicts::jorghipa_verdict_sphere` meets its contract: the verdict's case in the lent place. Assumes nothing.
 use borrow.Author.Needs.{needs}
 use Rattle.capi.proofs.Same.{judges}
-use Rattle.capi.proofs.jorghipa_verdict_sphere.Statement.{statement}
-use Rattle.capi.proofs.jorghipa_verdict_sphere.Tie as tie
+use Rattle.capi.proofs.verdicts.jorghipa_verdict_sphere.Statement.{statement}
+use Rattle.capi.proofs.verdicts.jorghipa_verdict_sphere.Tie as tie
 
 verdict-sphere-requires : tie.Need-verdict-sphere-requires
 verdict-sphere-requires c κs = search needs

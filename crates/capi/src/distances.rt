@@ -1,0 +1,104 @@
+// The distances of a point, a sphere, a box and a convex polygon.
+ghost use Rattle.arith.specs.Vector.{vec};
+ghost use Rattle.section.specs.Answers.{pointAnswer, sphereAnswer, boxAnswer, convexAnswer};
+ghost use Rattle.section.specs.Boxes.{aabb};
+ghost use Rattle.capi.specs.Interface.{Gives, places};
+use arith::Vec3;
+use section::Answer;
+use section::Sphere;
+
+// Puts a hit into the lent places, and gives the number of a refusal.
+pub fn give(
+    answer: Answer,
+    distance: &mut f64,
+    witness_z: &mut f64,
+    witness_radius: &mut f64,
+) -> u32
+    ensures { λ r. ⌜ Gives answer r
+        (places (now (distance .entry)) (now («witness_z» .entry)) (now («witness_radius» .entry)))
+        (places (now (distance .exit)) (now («witness_z» .exit)) (now («witness_radius» .exit))) ⌝ }
+{
+    match answer {
+        Answer::Hit(h) => {
+            let at = h.witness;
+            *distance = h.distance;
+            *witness_z = at.z;
+            *witness_radius = at.r;
+            0
+        }
+        Answer::Refused(n) => n,
+    }
+}
+
+#[no_mangle]
+pub extern "C" fn jorghipa_point(
+    section: &[f64],
+    x: f64,
+    y: f64,
+    z: f64,
+    distance: &mut f64,
+    witness_z: &mut f64,
+    witness_radius: &mut f64,
+) -> u32
+    ensures { λ r. ⌜ Gives (pointAnswer (now (section .entry)) (vec x y z)) r
+        (places (now (distance .entry)) (now («witness_z» .entry)) (now («witness_radius» .entry)))
+        (places (now (distance .exit)) (now («witness_z» .exit)) (now («witness_radius» .exit))) ⌝ }
+{
+    let answer = section::signed_distance(section, Vec3 { x, y, z });
+    give(answer, distance, witness_z, witness_radius)
+}
+
+#[no_mangle]
+pub extern "C" fn jorghipa_sphere(
+    section: &[f64],
+    x: f64,
+    y: f64,
+    z: f64,
+    radius: f64,
+    distance: &mut f64,
+    witness_z: &mut f64,
+    witness_radius: &mut f64,
+) -> u32
+    ensures { λ r. ⌜ Gives (sphereAnswer (now (section .entry)) (record { center = vec x y z; radius = radius })) r
+        (places (now (distance .entry)) (now («witness_z» .entry)) (now («witness_radius» .entry)))
+        (places (now (distance .exit)) (now («witness_z» .exit)) (now («witness_radius» .exit))) ⌝ }
+{
+    let center = Vec3 { x, y, z };
+    let answer = section::query_sphere(section, Sphere { center, radius });
+    give(answer, distance, witness_z, witness_radius)
+}
+
+#[no_mangle]
+pub extern "C" fn jorghipa_box(
+    section: &[f64],
+    z0: f64,
+    z1: f64,
+    r0: f64,
+    r1: f64,
+    distance: &mut f64,
+    witness_z: &mut f64,
+    witness_radius: &mut f64,
+) -> u32
+    ensures { λ r. ⌜ Gives (boxAnswer (now (section .entry)) (aabb z0 z1 r0 r1)) r
+        (places (now (distance .entry)) (now («witness_z» .entry)) (now («witness_radius» .entry)))
+        (places (now (distance .exit)) (now («witness_z» .exit)) (now («witness_radius» .exit))) ⌝ }
+{
+    let answer = section::aabb_polygon_distance(z0, z1, r0, r1, section);
+    give(answer, distance, witness_z, witness_radius)
+}
+
+#[no_mangle]
+pub extern "C" fn jorghipa_convex(
+    convex: &[f64],
+    section: &[f64],
+    distance: &mut f64,
+    witness_z: &mut f64,
+    witness_radius: &mut f64,
+) -> u32
+    ensures { λ r. ⌜ Gives (convexAnswer (now (convex .entry)) (now (section .entry))) r
+        (places (now (distance .entry)) (now («witness_z» .entry)) (now («witness_radius» .entry)))
+        (places (now (distance .exit)) (now («witness_z» .exit)) (now («witness_radius» .exit))) ⌝ }
+{
+    let answer = section::convex_polygon_distance(convex, section);
+    give(answer, distance, witness_z, witness_radius)
+}
