@@ -17,6 +17,8 @@ pub mod Hypot
 pub mod HypotKey
 pub mod HypotZero
 pub mod HypotReach
+pub mod Share
+pub mod HypotSquares
 pub mod HypotCorner
 pub mod Sqrt
 pub mod Constants

@@ -37,7 +37,7 @@ fn advance(a: Vertex, d: Vertex, t: f64) -> Vertex
 }
 
 // The point w, at the distance of p and q, where that is less than best. A hypot is no less than
-// either leg, so that most need no root.
+// either leg, and its square about the sum of theirs, so that most need no root.
 fn nearer_between(best: CollisionHit, p: Vertex, q: Vertex, w: Vertex) -> CollisionHit
     ensures { λ r. ⌜ r ≡ nearer best (hit (apart p q) w) ⌝ }
 {
@@ -48,6 +48,9 @@ fn nearer_between(best: CollisionHit, p: Vertex, q: Vertex, w: Vertex) -> Collis
     }
     let dr = p.r - q.r;
     if arith::abs(dr) >= least {
+        return best;
+    }
+    if dz * dz + dr * dr > least * least * 1.0000000000001 + 1e-300 {
         return best;
     }
     let distance = arith::hypot(dz, dr);

@@ -16,7 +16,7 @@ use Rattle.roots.proofs.Rounding.Product.{positivePart, positivePart-is}
 use Rattle.roots.proofs.Rounding.RoundKey.{roundKey-side}
 use Rattle.roots.specs.Roots.{hypot, root, sqrt}
 
-keySize-magnitude : (f : Format) (x : Float) → T (finiteNumber f x) → keySize f x ≡ magnitude f x
+pub keySize-magnitude : (f : Format) (x : Float) → T (finiteNumber f x) → keySize f x ≡ magnitude f x
 unfolding keySize
 keySize-magnitude f x p = rw (key-is f x) (go (negative x) (magnitude-le f x (number-of f x p)))
   where

@@ -16,7 +16,7 @@ use Rattle.arith.proofs.Laws.Order.{le-trans-float, lt-is-not-le}
 use Rattle.arith.proofs.Laws.OrderHeld.{T→true, true→T, held-number, le-left, le-right}
 use Rattle.arith.proofs.Laws.Hypot.{hypot-comm, hypot-ge, hypot-neg, hypot-number, unsigned, unsigned-key, unsigned-number}
 
-at-most : (m a : ℕ) (s : Bool) → side m s a ≤ m + a
+pub at-most : (m a : ℕ) (s : Bool) → side m s a ≤ m + a
 at-most m a true = omega arith
 at-most m a false = omega arith
 
@@ -40,7 +40,7 @@ like-number nan e = absurd (true→T e)
 like-number (inf s) e = tt
 like-number (fin s m i) e = tt
 
-no-number-less : (f : Format) (b x : Float) → lt (hypot f x nan) b ≡ false
+pub no-number-less : (f : Format) (b x : Float) → lt (hypot f x nan) b ≡ false
 unfolding lt hypot
 no-number-less f nan nan = refl
 no-number-less f nan (inf s) = refl
