@@ -18,11 +18,13 @@ pub use shapes::Sphere;
 pub use shapes::Vertex;
 
 // For the crates above.
+pub use refusal::box_number;
 pub use refusal::box_refusal;
 pub use refusal::convex_refusal;
 pub use refusal::pair_refusal;
 pub use refusal::point_refusal;
 pub use refusal::query_refusal;
+pub use refusal::radius_number;
 pub use refusal::sphere_refusal;
 pub use vertices::end_at;
 pub use vertices::nearer_of;

@@ -4,7 +4,7 @@ ghost use mathlib.Core.Bool.{_||_};
 ghost use mathlib.Core.List.{[], _∷_, _++_};
 ghost use mathlib.Core.Logic.{_⊎_};
 ghost use Prim.Native.Nat.{_≤_};
-ghost use Rattle.arith.specs.F64.{_≺_};
+ghost use Rattle.arith.specs.F64.{_≺_, 𝟘};
 ghost use Rattle.profile.specs.Vertices.{count};
 ghost use Rattle.profile.specs.Refusals as refusals;
 ghost use Rattle.profile.specs.Steps.{beyondLimit, lower, listRefusal};
@@ -87,12 +87,21 @@ fn lower_of(a: u32, b: u32) -> u32
     if a < b { a } else { b }
 }
 
-// The body's own number where it applies: it comes after number 5.
-fn own_number(number: u32, applies: bool) -> u32
-    requires { ⌜ 6 ≤ number ⌝ }
-    ensures { λ r. ⌜ (r ≡ refusals.refuse number applies 0) × ((r ≡ 0) ⊎ (6 ≤ r)) ⌝ }
+// Number 9: a body's radius is below 0.
+pub fn radius_number(radius: f64) -> u32
+    ensures { λ r. ⌜ (r ≡ refusals.refuse 9 (radius ≺ 𝟘) 0) × ((r ≡ 0) ⊎ (6 ≤ r)) ⌝ }
 {
-    if applies { number } else { 0 }
+    if radius < 0.0 { 9 } else { 0 }
+}
+
+// Number 10: the ends of a box are reversed.
+pub fn box_number(x: Aabb) -> u32
+    ensures { λ r. ⌜ (r ≡ refusals.refuse 10 ((x .z1 ≺ x .z0) || (x .r1 ≺ x .r0)) 0) × ((r ≡ 0) ⊎ (6 ≤ r)) ⌝ }
+{
+    if x.z1 < x.z0 {
+        return 10;
+    }
+    if x.r1 < x.r0 { 10 } else { 0 }
 }
 
 // A section of 3 to 256 vertices, the body's numbers, then the body's own.
@@ -120,22 +129,14 @@ pub fn sphere_refusal(s: &[f64], b: Sphere) -> u32
 {
     let c = b.center;
     let body = [c.x, c.y, c.z, b.radius];
-    let own = own_number(9, b.radius < 0.0);
-    query_refusal(s, &body[..], own)
-}
-
-fn is_reversed(x: Aabb) -> bool
-    ensures { λ r. ⌜ r ≡ ((x .z1 ≺ x .z0) || (x .r1 ≺ x .r0)) ⌝ }
-{
-    x.z1 < x.z0 || x.r1 < x.r0
+    query_refusal(s, &body[..], radius_number(b.radius))
 }
 
 pub fn box_refusal(s: &[f64], x: Aabb) -> u32
     ensures { λ r. ⌜ (r ≡ refusals.boxRefusal (now (s .entry)) x) × (r ≡ 0 → 3 ≤ count (now (s .entry))) ⌝ }
 {
     let body = [x.z0, x.z1, x.r0, x.r1];
-    let own = own_number(10, is_reversed(x));
-    query_refusal(s, &body[..], own)
+    query_refusal(s, &body[..], box_number(x))
 }
 
 pub fn convex_refusal(c: &[f64], s: &[f64]) -> u32

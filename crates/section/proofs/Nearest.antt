@@ -4,11 +4,11 @@ use Prim.Native.Nat.{ℕ, zero, suc}
 use mathlib.Core.Bool.{Bool, true, false, not, cond}
 use mathlib.Core.Path.{_≡_, refl, sym, ap, _∙_}
 use lib.Dec.{T}
-use lib.Ieee.{Float, nan, inf, fin, binary64, fits, lt, isNan}
+use lib.Ieee.{Float, binary64, fits, isNan}
 use lib.Ieee.Fits.{inf-fits}
 use Rattle.roots.proofs.Rounding.Key.{number}
 use Rattle.arith.specs.F64.{_≺_, ∞}
-use Rattle.arith.proofs.Laws.OrderHeld.{true→T, held-number, below-number, lt-trans-held, not-lt-trans-held}
+use Rattle.arith.proofs.Laws.OrderHeld.{true→T, held-number, below-number, inf-not-less, lt-trans-held, not-lt-trans-held}
 use Rattle.arith.proofs.Laws.Hypot.{hypot-fits}
 use Rattle.profile.specs.Vertices.{hit, nearer, nearestOf, upto}
 use Rattle.profile.specs.declared.shapes.Vertex.{Vertex}
@@ -43,12 +43,6 @@ kept-infinity : (w : Vertex) → Kept (hit ∞ w)
 unfolding isNan
 kept-infinity w = record { number = held-number binary64 ∞ (inf-fits binary64 false) tt; held = inf-fits binary64 false }
 
-infinity-not-below : (b : Float) → (∞ ≺ b) ≡ false
-unfolding lt
-infinity-not-below nan = refl
-infinity-not-below (inf s) = refl
-infinity-not-below (fin s m e) = refl
-
 module _ (s : ℕ → CollisionHit) (S : (k : ℕ) → Held (s k)) (w : Vertex) where
   kept-step : (b : CollisionHit) (k : ℕ) → Kept b → Kept (nearer b (s k))
   kept-step b k K = go (s k .distance ≺ b .distance) refl
@@ -65,7 +59,7 @@ module _ (s : ℕ → CollisionHit) (S : (k : ℕ) → Held (s k)) (w : Vertex) 
   pub nearest-from : (best : CollisionHit) → fits binary64 (best .distance) ≡ true → (n : ℕ)
       → nearestOf s best n ≡ nearer best (nearestOf s (hit ∞ w) n)
   unfolding upto
-  nearest-from best B zero = rw (infinity-not-below (best .distance))
+  nearest-from best B zero = rw (inf-not-less (best .distance))
   nearest-from best B (suc n) =
       let b = nearestOf s (hit ∞ w) n in
       ap (λ (h : CollisionHit). nearer h (s n)) (nearest-from best B n)

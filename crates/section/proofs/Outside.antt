@@ -12,6 +12,7 @@ use lib.Ieee.Fits.{down-pos, up-pos}
 use lib.Ieee.{Float, nan, inf, fin, le, lt, eq, ofBits, up, down}
 use Rattle.arith.specs.F64.{_≺_, _≼_, 𝟘, ∞, e-12}
 use Rattle.arith.specs.Num.{isFinite}
+use Rattle.roots.proofs.Rounding.Key.{negative}
 use Rattle.arith.proofs.Laws.OrderHeld.{true→T}
 use Rattle.profile.specs.declared.shapes.Vertex.{Vertex}
 use Rattle.section.specs.Points.{inSection, surfaceNear, pointDistance}
@@ -19,9 +20,7 @@ use Rattle.section.specs.Convex.{oneSided, convexNear, convexPoint}
 
 -- no sign
 abbrev upright : Float → Bool
-upright nan = true
-upright (inf s) = not s
-upright (fin s m e) = not s
+upright x = not (negative x)
 
 none-below-0 : (a b : ℕ) → b ≡ 0 → ltb a b ≡ false
 none-below-0 a b e = le-ltb a b (omega (arith, e))

@@ -110,16 +110,15 @@ fn box_gap(s: &[f64], x: Aabb) -> CollisionHit
     best
 }
 
-// The section may be deeper at p. Outside it is not, and needs no distance.
+// The section may be deeper at p. Outside it is not below 0, and needs no distance.
 pub fn deeper_at(s: &[f64], p: Vertex, best: CollisionHit) -> CollisionHit
     requires { ⌜ 3 ≤ count (now s) ⌝ }
     ensures { λ r. ⌜ r ≡ nearer best (pointDistance (now (s .entry)) p) ⌝ }
 {
-    if in_section(s, p) {
-        return nearer_of(best, signed_distance_2d(s, p));
-    }
     if best.distance <= 0.0 {
-        return best;
+        if !in_section(s, p) {
+            return best;
+        }
     }
     nearer_of(best, signed_distance_2d(s, p))
 }

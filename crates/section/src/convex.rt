@@ -169,17 +169,17 @@ fn deeper_point(c: &[f64], v: Vertex, best: CollisionHit) -> CollisionHit
     nearer_of(best, new)
 }
 
-// Vertex j of the section may be deeper in the convex body. Outside it is not, and needs no distance.
+// Vertex j of the section may be deeper in the convex body. Outside it is not below 0, and needs no
+// distance.
 fn deeper_vertex(c: &[f64], s: &[f64], j: usize, best: CollisionHit) -> CollisionHit
     requires { ⌜ j < count (now s) ⌝ }
     ensures { λ r. ⌜ r ≡ nearer best (hit (convexPoint (now (c .entry)) (vertexAt (now (s .entry)) j)) (vertexAt (now (s .entry)) j)) ⌝ }
 {
     let v = vertex_at(s, j);
-    if point_in_convex(c, v) {
-        return deeper_point(c, v, best);
-    }
     if best.distance <= 0.0 {
-        return best;
+        if !point_in_convex(c, v) {
+            return best;
+        }
     }
     deeper_point(c, v, best)
 }

@@ -31,6 +31,8 @@ pub use aabb::box_distance;
 pub use convex::convex_distance;
 pub use points::signed_distance_2d;
 pub use points::sphere_distance;
+pub use profile::box_number;
 pub use profile::nearer_of;
 pub use profile::pair_refusal;
 pub use profile::query_refusal;
+pub use profile::radius_number;

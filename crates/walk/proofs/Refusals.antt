@@ -25,11 +25,8 @@ later : (n : ℕ) (test : Bool) {rest : ℕ} → 6 ≤ n → Later rest → Late
 later n true h l = inr h
 later n false h l = l
 
-pub one-later : (n : ℕ) (test : Bool) → 6 ≤ n → Later (refuse n test 0)
-one-later n test h = later n test h (inl refl)
-
 pub own-later : (radius : Float) (axis : Axis) → Later (ownNumber radius axis)
-own-later radius axis = later 9 (radius ≺ 𝟘) (omega arith) (one-later 11 (neither axis) (omega arith))
+own-later radius axis = later 9 (radius ≺ 𝟘) (omega arith) (later 11 (neither axis) (omega arith) (inl refl))
 
 pub refused : (n : ℕ) (h : CylinderHit) → (n ≡ 0 → ⊥) → Refused n ≡ answer n h
 refused zero h k = absurd (k refl)

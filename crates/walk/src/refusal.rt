@@ -1,38 +1,15 @@
-// What is turned down of a cylinder, and of the other bodies with a clearance: the lowest of 01's
-// numbers that applies, 0 for none.
+// What is turned down of a cylinder, with or without a clearance: the lowest of 01's numbers that
+// applies, 0 for none.
 ghost use mathlib.Core.Path.{_≡_};
-ghost use mathlib.Core.Bool.{_||_};
 ghost use mathlib.Core.List.{[], _∷_, _++_};
 ghost use Prim.Native.Nat.{_≤_};
-ghost use Rattle.arith.specs.F64.{_≺_, 𝟘};
 ghost use Rattle.profile.specs.Vertices.{count};
-ghost use Rattle.profile.specs.Refusals.{refuse, queryRefusal};
+ghost use Rattle.profile.specs.Refusals.{queryRefusal};
 ghost use Rattle.walk.specs.Axis as axes;
 ghost use Rattle.walk.specs.Cylinders.{cylinderNumbers, cylinderRefusal, ownNumber};
 use super::shapes::Axis;
 use super::shapes::Cylinder;
-use section::Aabb;
 use section::query_refusal;
-
-// A negative radius.
-pub fn radius_number(radius: f64) -> u32
-    ensures { λ r. ⌜ r ≡ refuse 9 (radius ≺ 𝟘) 0 ⌝ }
-{
-    if radius < 0.0 { 9 } else { 0 }
-}
-
-// A box whose ends are reversed.
-pub fn box_number(x: Aabb) -> u32
-    ensures { λ r. ⌜ r ≡ refuse 10 ((x .z1 ≺ x .z0) || (x .r1 ≺ x .r0)) 0 ⌝ }
-{
-    if x.z1 < x.z0 {
-        return 10;
-    }
-    if x.r1 < x.r0 {
-        return 10;
-    }
-    0
-}
 
 // A negative radius, and an axis neither along nor across the spindle.
 fn own_number(radius: f64, axis: Axis) -> u32

@@ -4,17 +4,17 @@ ghost use Rattle.walk.specs.Verdicts as verdicts;
 ghost use Rattle.walk.specs.Verdicts.{sphereVerdict, boxVerdict, cylinderVerdict, convexVerdict};
 use super::axis::axis_of;
 use super::queries::cylinder_distance;
-use super::refusal::box_number;
 use super::refusal::cleared_refusal;
-use super::refusal::radius_number;
 use super::shapes::Cylinder;
 use super::shapes::Verdict;
 use section::Aabb;
 use section::Sphere;
 use section::box_distance;
+use section::box_number;
 use section::convex_distance;
 use section::pair_refusal;
 use section::query_refusal;
+use section::radius_number;
 use section::sphere_distance;
 
 // A distance this much below the clearance is still a touch.

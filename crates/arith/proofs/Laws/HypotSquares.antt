@@ -4,8 +4,8 @@ use Prim.Native.Nat.{_*_, _+_, _-_, _/_, _<_, _^_, min, ℕ, _≤_}
 use mathlib.Core.Bool.{Bool, false, true}
 use mathlib.Core.Logic.{inl, inr}
 use mathlib.Core.Path.{_≡_, ap, refl, subst, sym, _∙_}
-use native.Mathlib.Nat.{le-of-eq, le-of-lt, le-trans, lt-of-le-of-lt, lt-of-lt-of-le, mul-le-mul, mul-le-mul-left}
-use native.Mathlib.Nat.{mul-sub, not-le-of-lt, zero-add, zero-lt-suc, zero-mul}
+use native.Mathlib.Nat.{le-of-eq, le-of-lt, le-trans, lt-of-le-of-lt, lt-of-lt-of-le, mul-le-mul-left, mul-sub}
+use native.Mathlib.Nat.{not-le-of-lt, zero-add, zero-lt-suc, zero-mul}
 use native.Mathlib.Omega.{arith}
 use borrow.Author.Tests.{le-ltb}
 use lib.Dec.{leb→le, T}
@@ -13,6 +13,7 @@ use lib.Ieee.{add, binary64, fin, fits, Float, Format, inf, lt, mul, nan, ofBits
 use lib.Ieee.Fits.{and-i}
 use Rattle.roots.specs.Roots.{hypot}
 use Rattle.roots.proofs.Numbers.{decide}
+use Rattle.roots.proofs.Root.Sticky.{square-lt}
 use Rattle.roots.proofs.Rounding.Fraction.{rounded}
 use Rattle.roots.proofs.Rounding.Key.{finite-inside, finiteNumber, key, key-is, magnitude, mid, mid-pos, negative}
 use Rattle.roots.proofs.Rounding.Key.{inf-key, number-of, prec-pos, representable-of, side, unit, unit-pos}
@@ -24,7 +25,7 @@ use Rattle.arith.proofs.Laws.Hypot.{hypot-comm, hypot-infinite, hypot-n
 use Rattle.arith.proofs.Laws.HypotKey.{hypot-is, keySize-magnitude}
 use Rattle.arith.proofs.Laws.HypotReach.{at-most, no-number-less}
 use Rattle.arith.proofs.Laws.Monotone.{keySize, square-key, square-key-mono, times-key}
-use Rattle.arith.proofs.Laws.OrderHeld.{true→T}
+use Rattle.arith.proofs.Laws.OrderHeld.{inf-not-less, none-above-inf, not-less-minus-inf, not-less-nan, true→T}
 use Rattle.arith.proofs.Laws.RootKey.{root-ge}
 use Rattle.arith.proofs.Laws.Share.{rounded-least, rounded-most, sums-ordered}
 
@@ -74,26 +75,6 @@ module _ (f : Format) where
 cut-mono : (M s r : ℕ) → s ≤ r → M + min M s ≤ M + min M r
 cut-mono M s r h = omega arith
 
--- ---- orders that need no key
-lt-inf : (v : Float) → lt (inf false) v ≡ false
-unfolding lt
-lt-inf nan = refl
-lt-inf (inf t) = refl
-lt-inf (fin t n d) = refl
-
-lt-minus-inf : (v : Float) → lt v (inf true) ≡ false
-unfolding lt
-lt-minus-inf nan = refl
-lt-minus-inf (inf true) = refl
-lt-minus-inf (inf false) = refl
-lt-minus-inf (fin t n d) = refl
-
-lt-nan : (v : Float) → lt v nan ≡ false
-unfolding lt
-lt-nan nan = refl
-lt-nan (inf t) = refl
-lt-nan (fin t n d) = refl
-
 -- ---- the margin: c is at least 1 + 10 / K, for a K that the format's digits tell apart, e at least 4096 smallest values
 pub record Margin (f : Format) (c e : Float) : Type 0 where
   pub K : ℕ
@@ -117,7 +98,7 @@ total f x y = add f (mul f x x) (mul f y y)
 module _ (f : Format) (c e : Float) (m : Margin f c e) where
   -- nothing exceeds an infinite bound
   over-inf : (v w : Float) → v ≡ inf false → T (lt v w) → ⊥
-  over-inf v w q h = subst (λ (t : Bool). T t) (lt-inf w) (subst (λ (z : Float). T (lt z w)) q h)
+  over-inf v w q h = none-above-inf w (subst (λ (z : Float). T (lt z w)) q h)
 
   plus-inf : (v : Float) (s : Bool) → v ≡ inf s → mid f ≤ key f v → v ≡ inf false
   plus-inf v false q h = q
@@ -137,13 +118,7 @@ module _ (f : Format) (c e : Float) (m : Margin f c e) where
         → T (finiteNumber f (mul f b b)) → T (finiteNumber f (mul f z z))
     part z Z l p = finite-inside f (mul f z z) (mul-number f z z Z Z)
         (lt-of-lt-of-le (mid-pos f) (square-ge z Z))
-        (lt-of-le-of-lt (square-key-mono f z b Z B (of-squares (keySize f z) (keySize f b) l)) (key-below f (mul f b b) p))
-      where
-        of-squares : (u v : ℕ) → u * u < v * v → u ≤ v
-        of-squares u v h = elim (decide u v) [
-          | inl k ↦ k
-          | inr k ↦ absurd (not-le-of-lt h (mul-le-mul (le-of-lt k) (le-of-lt k)))
-        ]
+        (lt-of-le-of-lt (square-key-mono f z b Z B (le-of-lt (square-lt (keySize f z) (keySize f b) l))) (key-below f (mul f b b) p))
 
     factor : Size f c (key f c - mid f)
     factor = record { sure = m .factor; place = omega (arith, m .factor-pos) }
@@ -244,11 +219,11 @@ module _ (f : Format) (c e : Float) (m : Margin f c e) where
   pub squares-not-less : (b x y : Float) → fits f b ≡ true → T (fits f x) → T (fits f y)
       → lt (bound f c e b) (total f x y) ≡ true → lt (hypot f x y) b ≡ false
   squares-not-less b x nan p q r h = no-number-less f b x
-  squares-not-less b x (inf t) p q r h = rw (hypot-comm f x (inf t), hypot-infinite f t x) (lt-inf b)
+  squares-not-less b x (inf t) p q r h = rw (hypot-comm f x (inf t), hypot-infinite f t x) (inf-not-less b)
   squares-not-less b nan (fin t n j) p q r h = rw (hypot-comm f nan (fin t n j)) (no-number-less f b (fin t n j))
-  squares-not-less b (inf s) (fin t n j) p q r h = rw (hypot-infinite f s (fin t n j)) (lt-inf b)
-  squares-not-less nan (fin s u i) (fin t n j) p q r h = lt-nan (hypot f (fin s u i) (fin t n j))
-  squares-not-less (inf true) (fin s u i) (fin t n j) p q r h = lt-minus-inf (hypot f (fin s u i) (fin t n j))
+  squares-not-less b (inf s) (fin t n j) p q r h = rw (hypot-infinite f s (fin t n j)) (inf-not-less b)
+  squares-not-less nan (fin s u i) (fin t n j) p q r h = not-less-nan (hypot f (fin s u i) (fin t n j))
+  squares-not-less (inf true) (fin s u i) (fin t n j) p q r h = not-less-minus-inf (hypot f (fin s u i) (fin t n j))
   squares-not-less (inf false) (fin s u i) (fin t n j) p q r h = absurd (over-inf (bound f c e (inf false))
       (total f (fin s u i) (fin t n j)) (unfold mul in (ap (λ (v : Float). add f v e) (m .factor-inf) ∙ m .rest-inf)) (true→T h))
   squares-not-less (fin a v k) (fin s u i) (fin t n j) p q r h =

@@ -49,6 +49,29 @@ le-right (fin s m i) nan e = absurd (true→T e)
 le-right (fin s m i) (inf t) e = tt
 le-right (fin s m i) (fin t n j) e = tt
 
+-- nothing lies above +infinity or below -infinity, and a NaN is neither
+pub inf-not-less : (x : Float) → lt (inf false) x ≡ false
+unfolding lt
+inf-not-less nan = refl
+inf-not-less (inf t) = refl
+inf-not-less (fin t n j) = refl
+
+pub none-above-inf : (x : Float) → T (lt (inf false) x) → ⊥
+none-above-inf x h = subst (λ (t : Bool). T t) (inf-not-less x) h
+
+pub not-less-minus-inf : (x : Float) → lt x (inf true) ≡ false
+unfolding lt
+not-less-minus-inf nan = refl
+not-less-minus-inf (inf true) = refl
+not-less-minus-inf (inf false) = refl
+not-less-minus-inf (fin t n j) = refl
+
+pub not-less-nan : (x : Float) → lt x nan ≡ false
+unfolding lt
+not-less-nan nan = refl
+not-less-nan (inf t) = refl
+not-less-nan (fin t n j) = refl
+
 module _ (f : Format) where
   pub held-number : (x : Float) → T (fits f x) → T (not (isNan x)) → T (number f x)
   held-number x p q = and-i (fits f x) (not (isNan x)) p q

@@ -47,7 +47,7 @@ pub double-square : (r : ℕ) → 2 * r * (2 * r) ≡ 4 * (r * r)
 double-square r = mul-mul-mul-comm 2 r 2 r
 
 -- squares order as their roots do
-square-lt : (a b : ℕ) → a * a < b * b → a < b
+pub square-lt : (a b : ℕ) → a * a < b * b → a < b
 square-lt a b h = elim (decide b a) [ inl l ↦ absurd (not-le-of-lt h (mul-le-mul l l)) | inr l ↦ l ]
 
 square-le : (a b : ℕ) → a * a ≤ b * b → a ≤ b

@@ -140,10 +140,6 @@ module _ {n : ℕ} {x : Float} (U : UpTo n x) where
   unfolding lt
   below-infinity = upTo-case (λ (x : Float). T (x ≺ ∞)) (λ s m e. tt) U
 
-  pub infinity-not-below : T (∞ ≺ x) → ⊥
-  unfolding lt
-  infinity-not-below = upTo-case (λ (x : Float). T (∞ ≺ x) → ⊥) (λ s m e h. h) U
-
   pub infinity-not-le : T (∞ ≼ x) → ⊥
   unfolding le lt eq
   infinity-not-le = upTo-case (λ (x : Float). T (∞ ≼ x) → ⊥) (λ s m e h. h) U

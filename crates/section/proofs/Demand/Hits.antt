@@ -11,13 +11,14 @@ use lib.Ieee.Fits.{eq→eqb}
 use lib.ListN.{getD, length}
 use Rattle.arith.specs.F64.{_≺_, _≼_, ∞}
 use Rattle.arith.specs.Num.{min}
+use Rattle.arith.proofs.Laws.OrderHeld.{none-above-inf}
 use Rattle.section.specs.Boxes.{corners}
 use Rattle.section.specs.Demand.{UpTo}
 use Rattle.profile.specs.Vertices.{count, endAt, nearer, nearestOf, next, vertexAt}
 use Rattle.profile.specs.declared.shapes.Aabb.{Aabb}
 use Rattle.profile.specs.declared.shapes.CollisionHit.{CollisionHit}
 use Rattle.profile.specs.declared.shapes.Vertex.{Vertex}
-use Rattle.section.proofs.Demand.Bounds.{below-infinity, Finite, finite-upTo, infinity-not-below}
+use Rattle.section.proofs.Demand.Bounds.{below-infinity, Finite, finite-upTo}
 use Rattle.section.proofs.Demand.Bounds.{infinity-not-le, upTo-number}
 use Rattle.section.proofs.Demand.Steps.{pick, upto-keeps, upto-makes}
 use Rattle.section.proofs.Demand.UpTo.{upTo-raise}
@@ -101,7 +102,7 @@ module _ {n : ℕ} {a b : CollisionHit} where
   nearer-old A (found C) = pick (HitUpTo n) (b .distance ≺ a .distance) (λ h. C) (λ h. A)
   nearer-old A (none-yet e C) =
       pick (HitUpTo n) (b .distance ≺ a .distance)
-      (λ h. absurd (infinity-not-below (finite-upTo (A .distance)) (rw e at h))) (λ h. A)
+      (λ h. absurd (none-above-inf (a .distance) (rw e at h))) (λ h. A)
 
   pub nearer-best : BestUpTo n a → BestUpTo n b → BestUpTo n (nearer a b)
   nearer-best A C = pick (BestUpTo n) (b .distance ≺ a .distance) (λ h. C) (λ h. A)

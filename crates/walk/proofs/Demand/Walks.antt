@@ -8,9 +8,10 @@ use lib.Dec.{T, leb}
 use lib.Ieee.{Float, eq, le, lt, neg, ofBits}
 use Rattle.arith.specs.F64.{_⊕_, _≺_, e-12}
 use Rattle.arith.specs.Num.{isFinite}
+use Rattle.arith.proofs.Laws.OrderHeld.{none-above-inf}
 use Rattle.section.specs.Demand.{UpTo}
 use Rattle.profile.specs.declared.shapes.CollisionHit.{CollisionHit}
-use Rattle.section.proofs.Demand.Bounds.{Finite, add-finite, finite-raise, finite-upTo, infinity-not-below}
+use Rattle.section.proofs.Demand.Bounds.{Finite, add-finite, finite-raise}
 use Rattle.section.proofs.Demand.Bounds.{infinity-plus}
 use Rattle.section.proofs.Demand.Boxes.{box-upTo}
 use Rattle.section.proofs.Demand.Hits.{BestUpTo, HitUpTo, LeastUpTo, VerticesUpTo, found, min-new, nearer-new}
@@ -49,7 +50,7 @@ better-upTo {m} {best} {v} H D A =
     kept : BestUpTo 28 best → T (best .distance ⊕ e-12 ≺ m .distance) → HitUpTo 28 best
     kept (found B) h = B
     kept (none-yet e w) h =
-        absurd (infinity-not-below (finite-upTo (H .distance)) (rw (infinity-plus e-12-upTo) at (rw e at h)))
+        absurd (none-above-inf (m .distance) (rw (infinity-plus e-12-upTo) at (rw e at h)))
 
 -- ---- a walk that has measured a box
 pub record WalkUpTo (w : Walk) : Type 0 where

@@ -4,26 +4,20 @@ use Rattle.profile.specs.Refusals.{boxRefusal}
 use Rattle.profile.proofs.refusal.box_refusal.Statement.{statement}
 use Rattle.profile.proofs.refusal.box_refusal.Tie as tie
 
-is-reversed-requires : tie.Need-is-reversed-requires
-is-reversed-requires c κs = search needs
-
-own-number-requires : tie.Need-own-number-requires
-own-number-requires c κs = search needs
-
 slice-aggregate-query-refusal : tie.Need-slice-aggregate-query-refusal
 slice-aggregate-query-refusal c = search needs
 
+box-number-requires : tie.Need-box-number-requires
+box-number-requires c κs = search needs
+
 query-refusal-requires : tie.Need-query-refusal-requires
-query-refusal-requires c κs = c .before .own-number .ensures .1
+query-refusal-requires c κs = c .box-number .ensures .1
 
 returns : tie.Need-returns
 unfolding boxRefusal
-returns c = (
-  rw (← c .before .before .before .is-reversed .ensures, ← c .before .before .own-number .ensures .0) (c .query-refusal .ensures .0),
-  c .query-refusal .ensures .1,
-)
+returns c = (rw (← c .before .box-number .ensures .0) (c .query-refusal .ensures .0), c .query-refusal .ensures .1)
 
 pub box-refusal-spec : {M : Type 1} → statement M
 box-refusal-spec =
     tie.close
-    (tie.spec is-reversed-requires own-number-requires slice-aggregate-query-refusal query-refusal-requires returns)
+    (tie.spec slice-aggregate-query-refusal box-number-requires query-refusal-requires returns)

@@ -1,9 +1,6 @@
 -- `walk::verdicts::verdict_box` meets its contract. Assumes nothing.
-use native.Mathlib.Omega.{arith}
-use mathlib.Core.Bool.{_||_}
-use Rattle.arith.specs.F64.{_≺_}
 use Rattle.walk.specs.Verdicts.{boxVerdict}
-use Rattle.walk.proofs.Refusals.{one-later, no-verdict}
+use Rattle.walk.proofs.Refusals.{no-verdict}
 use borrow.Author.Needs.{needs}
 use Rattle.walk.proofs.verdicts.verdict_box.Statement.{statement}
 use Rattle.walk.proofs.verdicts.verdict_box.Tie as tie
@@ -15,14 +12,12 @@ box-number-requires : tie.Need-box-number-requires
 box-number-requires c κs = search needs
 
 query-refusal-requires : tie.Need-query-refusal-requires
-query-refusal-requires c κs =
-    let x = c .before .before .before .args .x in
-    rw (c .box-number .ensures) (one-later 10 ((x .z1 ≺ x .z0) || (x .r1 ≺ x .r0)) (omega arith))
+query-refusal-requires c κs = c .box-number .ensures .1
 
 returns : tie.Need-returns
 unfolding boxVerdict
 returns c =
-    rw (← c .before .before .box-number .ensures, ← c .before .query-refusal .ensures .0) (no-verdict _ _ (c .if1 .taken))
+    rw (← c .before .before .box-number .ensures .0, ← c .before .query-refusal .ensures .0) (no-verdict _ _ (c .if1 .taken))
 
 box-distance-requires : tie.Need-box-distance-requires
 box-distance-requires c κs = c .before .query-refusal .ensures .1 (c .if1 .left)
@@ -34,7 +29,7 @@ returns-2 : tie.Need-returns-2
 unfolding boxVerdict
 returns-2 c =
     rw (
-      ← c .before .before .before .before .box-number .ensures,
+      ← c .before .before .before .before .box-number .ensures .0,
       ← c .before .before .before .query-refusal .ensures .0,
       c .before .before .if1 .left,
       ← c .before .box-distance .ensures,

@@ -1,8 +1,6 @@
 -- `walk::verdicts::verdict_sphere` meets its contract. Assumes nothing.
-use native.Mathlib.Omega.{arith}
-use Rattle.arith.specs.F64.{_≺_, 𝟘}
 use Rattle.walk.specs.Verdicts.{sphereVerdict}
-use Rattle.walk.proofs.Refusals.{one-later, no-verdict}
+use Rattle.walk.proofs.Refusals.{no-verdict}
 use borrow.Author.Needs.{needs}
 use Rattle.walk.proofs.verdicts.verdict_sphere.Statement.{statement}
 use Rattle.walk.proofs.verdicts.verdict_sphere.Tie as tie
@@ -14,14 +12,12 @@ radius-number-requires : tie.Need-radius-number-requires
 radius-number-requires c κs = search needs
 
 query-refusal-requires : tie.Need-query-refusal-requires
-query-refusal-requires c κs =
-    let start = c .before .before .before .before in
-    rw (c .radius-number .ensures) (one-later 9 (start .args .sphere .radius ≺ 𝟘) (omega arith))
+query-refusal-requires c κs = c .radius-number .ensures .1
 
 returns : tie.Need-returns
 unfolding sphereVerdict
 returns c =
-    rw (← c .before .before .radius-number .ensures, ← c .before .query-refusal .ensures .0)
+    rw (← c .before .before .radius-number .ensures .0, ← c .before .query-refusal .ensures .0)
     (no-verdict _ _ (c .if1 .taken))
 
 sphere-distance-requires : tie.Need-sphere-distance-requires
@@ -34,7 +30,7 @@ returns-2 : tie.Need-returns-2
 unfolding sphereVerdict
 returns-2 c =
     rw (
-      ← c .before .before .before .before .radius-number .ensures,
+      ← c .before .before .before .before .radius-number .ensures .0,
       ← c .before .before .before .query-refusal .ensures .0,
       c .before .before .if1 .left,
       ← c .before .sphere-distance .ensures,
