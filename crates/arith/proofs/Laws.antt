@@ -22,3 +22,4 @@ pub mod HypotSquares
 pub mod HypotCorner
 pub mod Sqrt
 pub mod Constants
+pub mod Upright

@@ -3,16 +3,16 @@ use Prim.Native.Nat.{ℕ}
 use mathlib.Core.List.{List}
 use mathlib.Core.Path.{_≡_, refl, subst, sym}
 use lib.Ieee.{Float}
-use Rattle.profile.specs.Builder.{filled}
+use Rattle.builders.specs.Builder.{filled}
 use Rattle.section.specs.declared.shapes.Answer.{Answer}
 use Rattle.section.specs.declared.shapes.Answer.the-variants.{Hit as Found}
-use Rattle.profile.specs.declared.shapes.Kept.{Kept}
-use Rattle.walk.specs.Cover.{OfHit, Promised}
-use Rattle.walk.specs.declared.shapes.Cylinder.{Cylinder}
-use Rattle.walk.specs.declared.shapes.CylinderAnswer.{CylinderAnswer}
-use Rattle.walk.specs.declared.shapes.CylinderAnswer.the-variants.{Hit, Refused}
+use Rattle.builders.specs.declared.shapes.Kept.{Kept}
+use Rattle.cylinders.specs.Promised.{OfHit, Promised}
+use Rattle.bands.specs.declared.shapes.Cylinder.{Cylinder}
+use Rattle.cylinders.specs.declared.shapes.CylinderAnswer.{CylinderAnswer}
+use Rattle.cylinders.specs.declared.shapes.CylinderAnswer.the-variants.{Hit, Refused}
 use Rattle.walk.specs.declared.shapes.CylinderHit.{CylinderHit}
-use Rattle.walk.specs.declared.shapes.Verdict.{Verdict}
+use Rattle.verdicts.specs.declared.shapes.Verdict.{Verdict}
 use Rattle.capi.specs.Interface.{Places, Gives, Builds, Counts, Counted, GivesCounts, Judges, Few, hitPart}
 use Rattle.capi.specs.Interface.{keptNumber, keptCount}
 

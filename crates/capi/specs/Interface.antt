@@ -5,16 +5,16 @@ use mathlib.Core.Bool.{Bool, true, false}
 use mathlib.Core.Path.{_≡_}
 use mathlib.Core.List.{List}
 use lib.Ieee.{Float}
-use Rattle.profile.specs.Builder.{filled}
+use Rattle.builders.specs.Builder.{filled}
 use Rattle.section.specs.declared.shapes.Answer.{Answer}
 use Rattle.section.specs.declared.shapes.Answer.the-variants.{Hit, Refused}
-use Rattle.profile.specs.declared.shapes.Kept.{Kept}
-use Rattle.profile.specs.declared.shapes.Kept.the-variants.{Numbers, Refused as NotKept}
-use Rattle.walk.specs.declared.shapes.CylinderAnswer.{CylinderAnswer}
-use Rattle.walk.specs.declared.shapes.CylinderAnswer.the-variants.{Hit as Walked, Refused as NotWalked}
+use Rattle.builders.specs.declared.shapes.Kept.{Kept}
+use Rattle.builders.specs.declared.shapes.Kept.the-variants.{Numbers, Refused as NotKept}
+use Rattle.cylinders.specs.declared.shapes.CylinderAnswer.{CylinderAnswer}
+use Rattle.cylinders.specs.declared.shapes.CylinderAnswer.the-variants.{Hit as Walked, Refused as NotWalked}
 use Rattle.walk.specs.declared.shapes.CylinderHit.{CylinderHit}
-use Rattle.walk.specs.declared.shapes.Verdict.{Verdict}
-use Rattle.walk.specs.declared.shapes.Verdict.the-variants.{Clear, Collision, Refused as NoVerdict}
+use Rattle.verdicts.specs.declared.shapes.Verdict.{Verdict}
+use Rattle.verdicts.specs.declared.shapes.Verdict.the-variants.{Clear, Collision, Refused as NoVerdict}
 
 abbrev pub number : Answer → ℕ
 number (Hit h) = 0

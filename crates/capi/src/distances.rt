@@ -1,11 +1,11 @@
 // The distances of a point, a sphere, a box and a convex polygon.
 ghost use Rattle.arith.specs.Vector.{vec};
 ghost use Rattle.section.specs.Answers.{pointAnswer, sphereAnswer, boxAnswer, convexAnswer};
-ghost use Rattle.section.specs.Boxes.{aabb};
+ghost use Rattle.boxes.specs.Boxes.{aabb};
 ghost use Rattle.capi.specs.Interface.{Gives, places};
 use arith::Vec3;
 use section::Answer;
-use section::Sphere;
+use profile::Sphere;
 
 // Puts a hit into the lent places, and gives the number of a refusal.
 pub fn give(

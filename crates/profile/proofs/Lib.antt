@@ -1,4 +1,3 @@
--- Laws of loops that the functions' proofs share, refusals and builders.
+-- Laws of loops that the functions' proofs share, and of the refusals.
 pub mod Fold
 pub mod Refusals
-pub mod Builders

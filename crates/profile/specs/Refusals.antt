@@ -1,15 +1,14 @@
 -- 01's table of what is turned down, numbers 1 to 10: the lowest number that applies over everything that is given, 0 for none.
 -- Assumes nothing.
-use Prim.Native.Nat.{ℕ, _+_, _*_, _%_}
+use Prim.Native.Nat.{ℕ, _+_, _%_}
 use mathlib.Core.Bool.{Bool, false, not, _||_, cond}
 use mathlib.Core.List.{List, [], _∷_, _++_}
 use lib.ListN.{length}
 use lib.Dec.{eqb, ltb}
-use lib.Ieee.{Float, neg}
-use Rattle.arith.specs.F64.{_≺_, 𝟘, e-9, limit}
+use lib.Ieee.{Float}
+use Rattle.arith.specs.F64.{_≺_, 𝟘, limit}
 use Rattle.arith.specs.Num.{abs, isFinite}
-use Rattle.profile.specs.Vertices.{count, vertexAt, any}
-use Rattle.profile.specs.Builder.{sectionOf, polygonOf}
+use Rattle.profile.specs.Vertices.{count}
 use Rattle.profile.specs.declared.shapes.Aabb.{Aabb}
 use Rattle.profile.specs.declared.shapes.Sphere.{Sphere}
 use Rattle.arith.specs.declared.vector.Vec3.{Vec3}
@@ -68,23 +67,3 @@ boxRefusal s x =
 
 unfoldable pub convexRefusal : List Float → List Float → ℕ
 convexRefusal c s = queryRefusal (c ∷ s ∷ []) (c ++ s) 0
-
--- 2 to 254 section points, a radius not below -1e-9, room for two points more, three kept
-unfoldable pub sectionRefusal : List Float → List Float → ℕ
-sectionRefusal s space =
-    refuse 1 (odd s)
-    (refuse 2 (fewer 2 s)
-    (refuse 3 (more 254 s)
-    (numbersRefusal s
-    (refuse 6 (any (λ k. vertexAt s k .r ≺ neg e-9) (count s))
-    (refuse 7 (ltb (length space) (2 * (count s + 2)))
-    (refuse 8 (ltb (count (sectionOf s)) 3) 0))))))
-
-unfoldable pub polygonRefusal : List Float → List Float → ℕ
-polygonRefusal s space =
-    refuse 1 (odd s)
-    (refuse 2 (fewer 3 s)
-    (refuse 3 (more 256 s)
-    (numbersRefusal s
-    (refuse 7 (ltb (length space) (2 * count s))
-    (refuse 8 (ltb (count (polygonOf s)) 3) 0)))))

@@ -12,31 +12,33 @@ use Rattle.roots.specs.Roots.{sqrt, hypot}
 use Rattle.arith.specs.Vector.{vec}
 use Rattle.arith.specs.declared.vector.Vec3.{Vec3}
 use Rattle.profile.specs.Vertices.{vertex, hit, upto, any, vertexAt}
-use Rattle.section.specs.Segments.{closest, closestPlaces, segments}
-use Rattle.section.specs.Points.{surfaceStep, surfaceNear, crossing, oddCrossings, insideAxisEdge, inSection}
-use Rattle.section.specs.Points.{pointDistance, sphereDistance}
-use Rattle.section.specs.Boxes.{clipSide, clip, edgeBox, wellInside, crossesBox, boxGap, boxPenetration, boxWitness}
-use Rattle.section.specs.Boxes.{boxHolds, result, boxDistance}
-use Rattle.profile.specs.Builder.{samePoint, keep, sectionPoints, sectionOf, polygonPoints, polygonOf}
+use Rattle.segments.specs.Segments.{closest, closestPlaces, segments}
+use Rattle.points.specs.Points.{surfaceStep, surfaceNear, crossing, oddCrossings, insideAxisEdge, inSection}
+use Rattle.points.specs.Points.{pointDistance, sphereDistance}
+use Rattle.segments.specs.Clip.{clipSide, clip}
+use Rattle.boxes.specs.Boxes.{edgeBox, wellInside, crossesBox, boxGap, boxPenetration, boxWitness}
+use Rattle.boxes.specs.Boxes.{boxHolds, boxDistance}
+use Rattle.points.specs.Overlap.{result}
+use Rattle.builders.specs.Builder.{samePoint, keep, sectionPoints, sectionOf, polygonPoints, polygonOf}
 use Rattle.profile.specs.Refusals.{anyOf, numbersRefusal, queryRefusal, pointRefusal, sphereRefusal, boxRefusal}
-use Rattle.profile.specs.Refusals.{sectionRefusal, polygonRefusal}
+use Rattle.builders.specs.Kept.{sectionRefusal, polygonRefusal}
 use Rattle.section.specs.Answers.{pointAnswer, sphereAnswer, boxAnswer}
-use Rattle.profile.specs.Kept.{sectionAnswer, polygonAnswer}
-use Rattle.walk.specs.Axis.{direction, axis}
-use Rattle.walk.specs.Band.{axialBox, bandOf, halfWidth, spanAt}
+use Rattle.builders.specs.Kept.{sectionAnswer, polygonAnswer}
+use Rattle.bands.specs.Axis.{direction, axis}
+use Rattle.bands.specs.Band.{axialBox, bandOf, halfWidth, spanAt}
 use Rattle.walk.specs.Pieces.{widest, narrowest, boxOf, variation}
 use Rattle.walk.specs.Walk.{sampleAt, sampled, walk, walkAll, bandDistance}
-use Rattle.walk.specs.Cylinders.{cylinderRefusal, cylinderDistance, cylinderAnswer}
-use Rattle.walk.specs.declared.shapes.Cylinder.{Cylinder}
-use Rattle.walk.specs.declared.shapes.CylinderAnswer.{CylinderAnswer}
-use Rattle.walk.specs.declared.shapes.CylinderAnswer.the-variants.{Hit as CylinderHits, Refused as CylinderRefused}
+use Rattle.cylinders.specs.Cylinders.{cylinderRefusal, cylinderDistance, cylinderAnswer}
+use Rattle.bands.specs.declared.shapes.Cylinder.{Cylinder}
+use Rattle.cylinders.specs.declared.shapes.CylinderAnswer.{CylinderAnswer}
+use Rattle.cylinders.specs.declared.shapes.CylinderAnswer.the-variants.{Hit as CylinderHits, Refused as CylinderRefused}
 use Rattle.profile.specs.declared.shapes.Vertex.{Vertex}
 use Rattle.profile.specs.declared.shapes.Aabb.{Aabb}
 use Rattle.profile.specs.declared.shapes.Sphere.{Sphere}
 use Rattle.section.specs.declared.shapes.Answer.{Answer}
 use Rattle.section.specs.declared.shapes.Answer.the-variants.{Hit, Refused}
-use Rattle.profile.specs.declared.shapes.Kept.{Kept}
-use Rattle.profile.specs.declared.shapes.Kept.the-variants.{Numbers, Refused as NotKept}
+use Rattle.builders.specs.declared.shapes.Kept.{Kept}
+use Rattle.builders.specs.declared.shapes.Kept.the-variants.{Numbers, Refused as NotKept}
 
 abbrev pub mm : ℕ → Float
 mm n = ofInt binary64 (pos n)

@@ -19,9 +19,9 @@ use Rattle.profile.specs.declared.shapes.Aabb.{Aabb}
 use Rattle.section.specs.declared.shapes.Answer.the-variants as answers
 use Rattle.profile.specs.declared.shapes.Sphere.{Sphere}
 use Rattle.profile.specs.declared.shapes.Vertex.{Vertex}
-use Rattle.walk.specs.Cylinders.{cylinderAnswer, cylinderRefusal}
-use Rattle.walk.specs.declared.shapes.Cylinder.{Cylinder}
-use Rattle.walk.specs.declared.shapes.CylinderAnswer.the-variants as cylinder-answers
+use Rattle.cylinders.specs.Cylinders.{cylinderAnswer, cylinderRefusal}
+use Rattle.bands.specs.declared.shapes.Cylinder.{Cylinder}
+use Rattle.cylinders.specs.declared.shapes.CylinderAnswer.the-variants as cylinder-answers
 use Rattle.records.specs.Flattened.{flattened}
 use Rattle.records.specs.Steps.{OfFront, OfPoint, OfSphere, OfBox, OfCylinder}
 use Rattle.records.proofs.Filled.{Filled}

@@ -7,7 +7,7 @@ use lib.ListN.{length, take}
 use lib.Ieee.{Float}
 use Rattle.section.specs.declared.shapes.Answer.the-variants as answers
 use Rattle.profile.specs.declared.shapes.Vertex.{Vertex}
-use Rattle.walk.specs.declared.shapes.CylinderAnswer.the-variants as cylinder-answers
+use Rattle.cylinders.specs.declared.shapes.CylinderAnswer.the-variants as cylinder-answers
 use Rattle.records.specs.Flattened.{flattened}
 use Rattle.records.specs.Replies.{pointOf, sphereOf, boxOf, cylinderOf, reply, cylinderReply}
 use Rattle.records.specs.Steps.{OfFront, OfPlace, OfBall, OfBounds, OfBar}

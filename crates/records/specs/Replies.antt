@@ -3,14 +3,14 @@ use mathlib.Core.Bool.{false}
 use Rattle.arith.specs.F64.{𝟘}
 use Rattle.arith.specs.Vector.{vec}
 use Rattle.arith.specs.declared.vector.Vec3.{Vec3}
-use Rattle.section.specs.Boxes.{aabb}
+use Rattle.boxes.specs.Boxes.{aabb}
 use Rattle.profile.specs.declared.shapes.Aabb.{Aabb}
 use Rattle.section.specs.declared.shapes.Answer.{Answer}
 use Rattle.section.specs.declared.shapes.Answer.the-variants.{Hit, Refused}
 use Rattle.profile.specs.declared.shapes.Sphere.{Sphere}
-use Rattle.walk.specs.declared.shapes.Cylinder.{Cylinder}
-use Rattle.walk.specs.declared.shapes.CylinderAnswer.{CylinderAnswer}
-use Rattle.walk.specs.declared.shapes.CylinderAnswer.the-variants.{Hit as Walked, Refused as NotWalked}
+use Rattle.bands.specs.declared.shapes.Cylinder.{Cylinder}
+use Rattle.cylinders.specs.declared.shapes.CylinderAnswer.{CylinderAnswer}
+use Rattle.cylinders.specs.declared.shapes.CylinderAnswer.the-variants.{Hit as Walked, Refused as NotWalked}
 use Rattle.records.specs.declared.replies.Ball.{Ball}
 use Rattle.records.specs.declared.replies.Bar.{Bar}
 use Rattle.records.specs.declared.replies.Bounds.{Bounds}

@@ -13,10 +13,10 @@ use Rattle.profile.specs.declared.shapes.Aabb.{Aabb}
 use Rattle.section.specs.declared.shapes.Answer.{Answer}
 use Rattle.profile.specs.declared.shapes.Sphere.{Sphere}
 use Rattle.profile.specs.declared.shapes.Vertex.{Vertex}
-use Rattle.walk.specs.Cover.{OfHit, Promised}
-use Rattle.walk.specs.Cylinders.{cylinderAnswer}
-use Rattle.walk.specs.declared.shapes.Cylinder.{Cylinder}
-use Rattle.walk.specs.declared.shapes.CylinderAnswer.{CylinderAnswer}
+use Rattle.cylinders.specs.Promised.{OfHit, Promised}
+use Rattle.cylinders.specs.Cylinders.{cylinderAnswer}
+use Rattle.bands.specs.declared.shapes.Cylinder.{Cylinder}
+use Rattle.cylinders.specs.declared.shapes.CylinderAnswer.{CylinderAnswer}
 use Rattle.records.specs.Replies.{pointOf, sphereOf, boxOf, cylinderOf, reply, cylinderReply}
 use Rattle.records.specs.declared.replies.Ball.{Ball}
 use Rattle.records.specs.declared.replies.Bar.{Bar}

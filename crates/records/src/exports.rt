@@ -3,8 +3,8 @@
 ghost use mathlib.Core.Path.{_≡_};
 ghost use Rattle.section.specs.Answers.{pointAnswer, sphereAnswer, boxAnswer};
 ghost use Rattle.section.specs.declared.shapes.Answer.the-variants as answers;
-ghost use Rattle.walk.specs.Cylinders.{cylinderAnswer};
-ghost use Rattle.walk.specs.declared.shapes.CylinderAnswer.the-variants as cylinder-answers;
+ghost use Rattle.cylinders.specs.Cylinders.{cylinderAnswer};
+ghost use Rattle.cylinders.specs.declared.shapes.CylinderAnswer.the-variants as cylinder-answers;
 ghost use Rattle.records.specs.Flattened.{flattened};
 ghost use Rattle.records.specs.Replies.{pointOf, sphereOf, boxOf, cylinderOf, reply, cylinderReply};
 ghost use Rattle.records.specs.Steps.{OfFront, OfPlace, OfBall, OfBounds, OfBar};
@@ -26,7 +26,7 @@ use super::replies::cylinder_reply_of;
 use super::replies::point_of;
 use super::replies::reply_of;
 use super::replies::sphere_of;
-use section::Vertex;
+use profile::Vertex;
 
 fn point_reply(items: &[f64; 512], n: usize, place: Place) -> Reply
     ensures { λ r. ⌜ OfFront (OfPlace place) (reply (answers.Refused 3)) (now (items .entry)) n r ⌝ }

@@ -3,22 +3,22 @@
 ghost use mathlib.Core.Path.{_≡_};
 ghost use Rattle.section.specs.Answers.{pointAnswer, sphereAnswer, boxAnswer};
 ghost use Rattle.section.specs.Demand as section-demand;
-ghost use Rattle.walk.specs.Cylinders.{cylinderAnswer};
-ghost use Rattle.walk.specs.Cover.{OfHit, Promised};
+ghost use Rattle.cylinders.specs.Cylinders.{cylinderAnswer};
+ghost use Rattle.cylinders.specs.Promised.{OfHit, Promised};
 ghost use Rattle.records.specs.Flattened.{flattened};
 ghost use Rattle.records.specs.Steps.{OfFront, OfPoint, OfSphere, OfBox, OfCylinder};
 ghost use Rattle.section.specs.declared.shapes.Answer.the-variants as answers;
-ghost use Rattle.walk.specs.declared.shapes.CylinderAnswer.the-variants as cylinder-answers;
+ghost use Rattle.cylinders.specs.declared.shapes.CylinderAnswer.the-variants as cylinder-answers;
 use super::copying::blank;
 use super::copying::numbers_of;
 use super::copying::put;
 use arith::Vec3;
-use section::Aabb;
+use profile::Aabb;
 use section::Answer;
-use section::Sphere;
-use section::Vertex;
-use walk::Cylinder;
-use walk::CylinderAnswer;
+use profile::Sphere;
+use profile::Vertex;
+use bands::Cylinder;
+use cylinders::CylinderAnswer;
 
 pub fn point_front(items: &[f64; 512], n: usize, point: Vec3) -> Answer
     ensures { λ r. ⌜ OfFront (OfPoint point) (answers.Refused 3) (now (items .entry)) n r ⌝ }
@@ -100,7 +100,7 @@ pub fn cylinder_front(items: &[f64; 512], n: usize, cylinder: Cylinder) -> Cylin
     }
     let end = numbers_of(n);
     let all = &items[..];
-    walk::query_cylinder(&all[..end], cylinder)
+    cylinders::query_cylinder(&all[..end], cylinder)
 }
 
 pub fn query_cylinder_of(section: &[Vertex], cylinder: Cylinder) -> CylinderAnswer

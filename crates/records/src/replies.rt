@@ -2,11 +2,11 @@
 ghost use mathlib.Core.Path.{_≡_};
 ghost use Rattle.records.specs.Replies as replies;
 use arith::Vec3;
-use section::Aabb;
+use profile::Aabb;
 use section::Answer;
-use section::Sphere;
-use walk::Cylinder;
-use walk::CylinderAnswer;
+use profile::Sphere;
+use bands::Cylinder;
+use cylinders::CylinderAnswer;
 
 #[repr(C)]
 pub struct Place {

@@ -7,7 +7,7 @@ use native.Mathlib.Omega.{arith}
 use lib.Ieee.{Float, nan}
 use lib.ListN.{length, length-append, length-drop, set, take, drop}
 use lib.Seq.{append-snoc, drop-cons, set-at, take-all, take-at}
-use Rattle.profile.specs.Builder.{filled}
+use Rattle.builders.specs.Builder.{filled}
 use Rattle.replay.specs.Lists.{numberAt, pastNumbers, numbersAt, listAt, pastList}
 use Rattle.replay.specs.declared.lists.Count.{Count}
 use Rattle.replay.specs.declared.lists.Number.{Number}

@@ -4,10 +4,10 @@ use mathlib.Core.List.{List}
 use lib.Ieee.{Float}
 use Rattle.arith.specs.Vector.{vec}
 use Rattle.arith.specs.declared.vector.Vec3.{Vec3}
-use Rattle.section.specs.Boxes.{aabb}
+use Rattle.boxes.specs.Boxes.{aabb}
 use Rattle.profile.specs.declared.shapes.Aabb.{Aabb}
 use Rattle.profile.specs.declared.shapes.Sphere.{Sphere}
-use Rattle.walk.specs.declared.shapes.Cylinder.{Cylinder}
+use Rattle.bands.specs.declared.shapes.Cylinder.{Cylinder}
 use Rattle.replay.specs.Lists.{numberAt}
 use Rattle.replay.specs.declared.bodies.BoxField.{BoxField}
 use Rattle.replay.specs.declared.bodies.CylinderField.{CylinderField}

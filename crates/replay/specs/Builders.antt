@@ -5,11 +5,11 @@ use mathlib.Core.List.{List, _++_}
 use lib.Dec.{eqb, ltb}
 use lib.Ieee.{Float, binary64, ne, nan, ofBits}
 use lib.ListN.{length, getD, take, drop}
-use Rattle.profile.specs.Kept.{sectionAnswer, polygonAnswer, sectionKept, polygonKept}
-use Rattle.profile.specs.Builder.{filled}
+use Rattle.builders.specs.Kept.{sectionAnswer, polygonAnswer, sectionKept, polygonKept}
+use Rattle.builders.specs.Builder.{filled}
 use Rattle.profile.specs.Vertices.{any}
-use Rattle.profile.specs.declared.shapes.Kept.{Kept}
-use Rattle.profile.specs.declared.shapes.Kept.the-variants.{Numbers, Refused as NotKept}
+use Rattle.builders.specs.declared.shapes.Kept.{Kept}
+use Rattle.builders.specs.declared.shapes.Kept.the-variants.{Numbers, Refused as NotKept}
 use Rattle.replay.specs.Lists.{most, countAt, listAt, pastList}
 use Rattle.replay.specs.Replies.{ending}
 use Rattle.replay.specs.declared.lists.Count.{Count}

@@ -4,7 +4,7 @@ use mathlib.Core.List.{List}
 use lib.Ieee.{binary64}
 use Rattle.roots.specs.Roots as roots
 use Rattle.section.specs.Answers.{pointAnswer, sphereAnswer, boxAnswer, convexAnswer}
-use Rattle.walk.specs.Cylinders.{cylinderAnswer}
+use Rattle.cylinders.specs.Cylinders.{cylinderAnswer}
 use Rattle.replay.specs.Bodies.{vectorAt, sphereAt, boxAt, cylinderAt}
 use Rattle.replay.specs.Lists.{most, numberAt, listAt, pastList}
 use Rattle.replay.specs.Replies.{ending, queryReply, cylinderReply}

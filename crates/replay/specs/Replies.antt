@@ -6,10 +6,10 @@ use lib.Dec.{eqb}
 use lib.ListN.{length}
 use Rattle.section.specs.declared.shapes.Answer.{Answer}
 use Rattle.section.specs.declared.shapes.Answer.the-variants as answer
-use Rattle.walk.specs.declared.shapes.CylinderAnswer.{CylinderAnswer}
-use Rattle.walk.specs.declared.shapes.CylinderAnswer.the-variants as cylinder
-use Rattle.walk.specs.declared.shapes.Verdict.{Verdict}
-use Rattle.walk.specs.declared.shapes.Verdict.the-variants as verdict
+use Rattle.cylinders.specs.declared.shapes.CylinderAnswer.{CylinderAnswer}
+use Rattle.cylinders.specs.declared.shapes.CylinderAnswer.the-variants as cylinder
+use Rattle.verdicts.specs.declared.shapes.Verdict.{Verdict}
+use Rattle.verdicts.specs.declared.shapes.Verdict.the-variants as verdict
 use Rattle.replay.specs.declared.replies.Reply.{Reply}
 use Rattle.replay.specs.declared.replies.Reply.the-variants as reply
 

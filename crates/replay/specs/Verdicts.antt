@@ -4,7 +4,7 @@ use mathlib.Core.Bool.{cond}
 use mathlib.Core.List.{List}
 use lib.Dec.{eqb, ltb}
 use lib.ListN.{length, getD}
-use Rattle.walk.specs.Verdicts.{sphereVerdict, boxVerdict, cylinderVerdict, convexVerdict}
+use Rattle.verdicts.specs.Verdicts.{sphereVerdict, boxVerdict, cylinderVerdict, convexVerdict}
 use Rattle.replay.specs.Bodies.{sphereAt, boxAt, cylinderAt}
 use Rattle.replay.specs.Lists.{most, numberAt, listAt, pastList}
 use Rattle.replay.specs.Replies.{ending, verdictReply}

@@ -4,9 +4,9 @@ ghost use mathlib.Core.Path.{_≡_};
 ghost use Rattle.replay.specs.Bodies as bodies;
 use super::lists::number_at;
 use arith::Vec3;
-use section::Aabb;
-use section::Sphere;
-use walk::Cylinder;
+use profile::Aabb;
+use profile::Sphere;
+use bands::Cylinder;
 
 pub struct VectorField {
     pub value: Vec3,

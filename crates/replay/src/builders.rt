@@ -4,7 +4,7 @@ ghost use Rattle.replay.specs.Builders as builders;
 use super::lists::count_at;
 use super::lists::list_at;
 use super::replies::Reply;
-use section::Kept;
+use builders::Kept;
 
 // What every number of a space is before the call.
 pub const BLANK: f64 = 100.0;
@@ -55,7 +55,7 @@ fn build_section(points: &[f64], space: &mut [f64]) -> Reply
     ensures { λ r. ⌜ r ≡ builders.sectionReply (now (points .entry)) (now (space .entry)) ⌝ }
     ensures { λ _. ⌜ now (space .exit) ≡ builders.sectionSpace (now (points .entry)) (now (space .entry)) ⌝ }
 {
-    let answer = section::write_section(points, space);
+    let answer = builders::write_section(points, space);
     builder_reply(answer, space)
 }
 
@@ -63,7 +63,7 @@ fn build_polygon(points: &[f64], space: &mut [f64]) -> Reply
     ensures { λ r. ⌜ r ≡ builders.polygonReply (now (points .entry)) (now (space .entry)) ⌝ }
     ensures { λ _. ⌜ now (space .exit) ≡ builders.polygonSpace (now (points .entry)) (now (space .entry)) ⌝ }
 {
-    let answer = section::write_polygon(points, space);
+    let answer = builders::write_polygon(points, space);
     builder_reply(answer, space)
 }
 

@@ -3,7 +3,7 @@
 ghost use mathlib.Core.Path.{_≡_};
 ghost use Prim.Native.Nat.{_≤_};
 ghost use lib.ListN.{length};
-ghost use Rattle.profile.specs.Builder.{filled};
+ghost use Rattle.builders.specs.Builder.{filled};
 ghost use Rattle.replay.specs.Lists as lists;
 use super::bits::float;
 use super::text::field_at;

@@ -38,7 +38,7 @@ use line::line_end;
 use line::read_more;
 use line::to_front;
 use replies::Reply;
-use section::CollisionHit;
+use profile::CollisionHit;
 use walk::CylinderHit;
 
 // What is read and not yet answered, the bytes of the buffer from start up to end; and whether the

@@ -97,7 +97,7 @@ pub fn cylinder(line: &[u8]) -> Reply
     let n = section.count;
     let body = cylinder_at(line, section.next);
     if body.next == line.len() {
-        return cylinder_reply(walk::query_cylinder(&list[..n], body.value));
+        return cylinder_reply(cylinders::query_cylinder(&list[..n], body.value));
     }
     Reply::Malformed
 }

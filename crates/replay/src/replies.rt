@@ -2,10 +2,10 @@
 ghost use mathlib.Core.Path.{_≡_};
 ghost use Rattle.replay.specs.Replies as replies;
 use section::Answer;
-use section::CollisionHit;
-use walk::CylinderAnswer;
+use profile::CollisionHit;
+use cylinders::CylinderAnswer;
 use walk::CylinderHit;
-use walk::Verdict;
+use verdicts::Verdict;
 
 pub enum Reply {
     Number(f64),

@@ -19,7 +19,7 @@ fn sphere(line: &[u8]) -> Reply
     let body = sphere_at(line, section.next);
     let clearance = number_at(line, body.next);
     if clearance.next == line.len() {
-        return verdict_reply(walk::verdict_sphere(&list[..n], body.value, clearance.value));
+        return verdict_reply(verdicts::verdict_sphere(&list[..n], body.value, clearance.value));
     }
     Reply::Malformed
 }
@@ -33,7 +33,7 @@ fn aabb(line: &[u8]) -> Reply
     let body = box_at(line, section.next);
     let clearance = number_at(line, body.next);
     if clearance.next == line.len() {
-        return verdict_reply(walk::verdict_box(&list[..n], body.value, clearance.value));
+        return verdict_reply(verdicts::verdict_box(&list[..n], body.value, clearance.value));
     }
     Reply::Malformed
 }
@@ -47,7 +47,7 @@ fn cylinder(line: &[u8]) -> Reply
     let body = cylinder_at(line, section.next);
     let clearance = number_at(line, body.next);
     if clearance.next == line.len() {
-        return verdict_reply(walk::verdict_cylinder(&list[..n], body.value, clearance.value));
+        return verdict_reply(verdicts::verdict_cylinder(&list[..n], body.value, clearance.value));
     }
     Reply::Malformed
 }
@@ -63,7 +63,7 @@ fn convex(line: &[u8]) -> Reply
     let m = section.count;
     let clearance = number_at(line, section.next);
     if clearance.next == line.len() {
-        return verdict_reply(walk::verdict_convex(&other[..m], &list[..n], clearance.value));
+        return verdict_reply(verdicts::verdict_convex(&other[..m], &list[..n], clearance.value));
     }
     Reply::Malformed
 }

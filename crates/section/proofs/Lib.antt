@@ -1,7 +1,3 @@
--- Laws of tests that the functions' proofs share, and demand 1 over the definitions.
-pub mod Flags
-pub mod Overlap
-pub mod Outside
-pub mod Nearest
+-- Demand 1 over the definitions, and what a query answers.
 pub mod Answered
 pub mod Demand

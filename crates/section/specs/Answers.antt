@@ -2,9 +2,9 @@
 use Prim.Native.Nat.{ℕ, zero, suc}
 use mathlib.Core.List.{List}
 use lib.Ieee.{Float}
-use Rattle.section.specs.Points.{meridian, pointDistance, sphereDistance}
-use Rattle.section.specs.Boxes.{boxDistance}
-use Rattle.section.specs.Convex.{convexDistance}
+use Rattle.points.specs.Points.{meridian, pointDistance, sphereDistance}
+use Rattle.boxes.specs.Boxes.{boxDistance}
+use Rattle.convex.specs.Convex.{convexDistance}
 use Rattle.profile.specs.Refusals.{pointRefusal, sphereRefusal, boxRefusal, convexRefusal}
 use Rattle.profile.specs.declared.shapes.Aabb.{Aabb}
 use Rattle.profile.specs.declared.shapes.Sphere.{Sphere}

@@ -2,13 +2,13 @@
 // the caller.
 ghost use mathlib.Core.Path.{_≡_};
 ghost use Rattle.section.specs.Answers.{pointAnswer, sphereAnswer, boxAnswer, convexAnswer};
-ghost use Rattle.section.specs.Boxes.{aabb};
+ghost use Rattle.boxes.specs.Boxes.{aabb};
 ghost use Rattle.section.specs.Demand.{OfHit, Bounded, BoundedOffAxis};
-use super::aabb::box_distance;
-use super::convex::convex_distance;
-use super::points::meridian;
-use super::points::signed_distance_2d;
-use super::points::sphere_distance;
+use boxes::box_distance;
+use convex::convex_distance;
+use points::meridian;
+use points::signed_distance_2d;
+use points::sphere_distance;
 use super::shapes::Answer;
 use arith::Vec3;
 use profile::Aabb;

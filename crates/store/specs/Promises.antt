@@ -1,9 +1,8 @@
 -- What the functions behind the entry points promise each other. Assumes nothing.
-use Prim.Native.Nat.{ℕ, _+_, _≤_}
+use Prim.Native.Nat.{ℕ, _≤_}
 use mathlib.Core.Path.{_≡_}
 use mathlib.Core.List.{List}
-use lib.ListN.{length, take}
-use lib.Seq.{sets}
+use lib.ListN.{take}
 use Rattle.store.specs.declared.answers.StoreAnswer.{StoreAnswer}
 use Rattle.store.specs.declared.answers.StoreAnswer.the-variants.{Accepted, Refused}
 use Rattle.store.specs.declared.answers.Filled.{Filled}
@@ -13,8 +12,3 @@ use Rattle.store.specs.declared.answers.Filled.the-variants.{Front, Refu
 pub record Fills {A : Type 0} (a : StoreAnswer) (xs : List A) (r : Filled) (after : List A) : Type 0 where
   pub accepted : (n : ℕ) → r ≡ Front n → (a ≡ Accepted) × (take n after ≡ xs) × (n ≤ 512)
   pub refused : (n k : ℕ) → r ≡ NotFilled n k → a ≡ Refused n k
-
--- t stands at place `at`, all else is as it was, and r is the place behind it
-pub record Written (before : List ℕ) (at : ℕ) (t after : List ℕ) (r : ℕ) : Type 0 where
-  pub text : after ≡ sets before at t
-  pub end : r ≡ at + length t

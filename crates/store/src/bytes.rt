@@ -1,9 +1,9 @@
 // The records of a store and the numbers in their bytes, little-endian.
 ghost use mathlib.Core.Path.{_≡_};
-ghost use Prim.Native.Nat.{_<_, _≤_, _^_};
+ghost use Prim.Native.Nat.{_<_, _^_};
 ghost use lib.ListN.{getD};
 ghost use lib.Ieee.{binary64, ofBits};
-ghost use Rattle.store.specs.Bytes.{littleEndian, u32At, f64At};
+ghost use Rattle.store.specs.Bytes.{littleEndian, u32At};
 ghost use Rattle.store.specs.Records.{next, kind, number};
 
 // 0 past the end

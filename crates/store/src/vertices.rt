@@ -50,5 +50,5 @@ pub fn section_refusal(s: &[f64]) -> u32
     ensures { λ r. ⌜ r ≡ queryRefusal (now (s .entry) ∷ []) (now (s .entry)) 0 ⌝ }
 {
     let no_body = [0.0; 0];
-    section::query_refusal(s, &no_body, 0)
+    profile::query_refusal(s, &no_body, 0)
 }

@@ -11,5 +11,3 @@ pub mod Found
 pub mod Counts
 pub mod Least
 pub mod Covers
-pub mod Accepted
-pub mod Across

@@ -5,7 +5,6 @@ pub mod Pieces
 pub mod Intervals
 pub mod Samples
 pub mod Walks
-pub mod Cylinders
 pub mod Orders
 pub mod OrderedSpans
 pub mod Ordered

@@ -17,7 +17,7 @@ use Rattle.walk.specs.Pieces.{piece, wholeWidth}
 use Rattle.walk.specs.Walk.{Walk, better, halved, halves, sampled, waiting, measured}
 use Rattle.walk.specs.Walk.{walk, walkAll, walked, pieces}
 use Rattle.walk.specs.Steps.{Room, measuredOf}
-use Rattle.walk.specs.declared.shapes.RadialBand.{RadialBand}
+use Rattle.bands.specs.declared.shapes.RadialBand.{RadialBand}
 use Rattle.walk.specs.declared.shapes.Piece.{Piece}
 use Rattle.walk.specs.declared.shapes.Measured.{Measured}
 use Rattle.walk.specs.declared.shapes.CylinderHit.{CylinderHit}

@@ -4,11 +4,11 @@ use mathlib.Core.List.{List}
 use lib.Ieee.{Float}
 use Rattle.arith.specs.F64.{e-9}
 use Rattle.profile.specs.Vertices.{nearestOf}
-use Rattle.section.specs.Points.{pointDistance}
+use Rattle.points.specs.Points.{pointDistance}
 use Rattle.profile.specs.declared.shapes.CollisionHit.{CollisionHit}
 use Rattle.walk.specs.Pieces.{variation}
 use Rattle.walk.specs.Walk.{sampleAt, boxHit, walkAll}
-use Rattle.walk.specs.declared.shapes.RadialBand.{RadialBand}
+use Rattle.bands.specs.declared.shapes.RadialBand.{RadialBand}
 use Rattle.walk.specs.declared.shapes.Piece.{Piece}
 use Rattle.walk.specs.declared.shapes.Measured.{Measured}
 

@@ -4,7 +4,7 @@ ghost use mathlib.Core.Bool.{true, _&&_};
 ghost use Prim.Native.Nat.{_≤_, max};
 ghost use Rattle.arith.specs.F64.{_≺_};
 ghost use Rattle.profile.specs.Vertices.{count, hit};
-ghost use Rattle.section.specs.Boxes.{boxDistance};
+ghost use Rattle.boxes.specs.Boxes.{boxDistance};
 ghost use Rattle.walk.specs.Walk as walk;
 ghost use Rattle.walk.specs.Steps.{Room, BandRoom};
 use super::pieces::measure;
@@ -13,13 +13,13 @@ use super::samples::sampled;
 use super::shapes::CylinderHit;
 use super::shapes::Measured;
 use super::shapes::Piece;
-use super::shapes::RadialBand;
+use bands::RadialBand;
 use super::waiting::push;
 use super::waiting::push_halves;
-use section::Aabb;
-use section::CollisionHit;
-use section::box_distance;
-use section::nearer_of;
+use profile::Aabb;
+use profile::CollisionHit;
+use boxes::box_distance;
+use profile::nearer_of;
 
 // Agreement required between the bounds.
 const BAND_TOL: f64 = 1e-9;

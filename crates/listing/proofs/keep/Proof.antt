@@ -3,8 +3,8 @@ use Prim.Native.Nat.{_+_, _-_, _≤_, _<_, _^_}
 use mathlib.Core.Path.{_≡_, refl}
 use lib.ListN.{length, take, length-set}
 use native.Mathlib.Omega.{arith}
-use Rattle.store.specs.Promises.{Written}
-use Rattle.store.proofs.Writing.{word-more, word-all}
+use Rattle.store_listing.specs.Promises.{Written}
+use Rattle.store_listing.proofs.Writing.{word-more, word-all}
 use borrow.Author.Needs.{needs}
 use Rattle.listing.proofs.keep.Statement.{statement}
 use Rattle.listing.proofs.keep.Tie as tie

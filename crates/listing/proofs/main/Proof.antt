@@ -1,8 +1,8 @@
 -- `listing::main` is safe and ends: the listing lies within its array. Assumes nothing.
 use native.Mathlib.Omega.{arith}
 use lib.ListN.{length-take}
-use Rattle.store.specs.Listing.{inputListing}
-use Rattle.store.proofs.Listed.{front-within}
+use Rattle.store_listing.specs.Listing.{inputListing}
+use Rattle.store_listing.proofs.Listed.{front-within}
 use borrow.Author.Needs.{needs}
 use Rattle.listing.proofs.main.Statement.{statement}
 use Rattle.listing.proofs.main.Tie as tie

@@ -7,9 +7,10 @@ use native.Mathlib.Omega.{arith}
 use lib.Dec.{leb→le}
 use lib.Ieee.{Float, neg}
 use Rattle.arith.specs.F64.{_≺_, _≼_, 𝟘, ∞, e-9, e-12}
-use Rattle.section.specs.Boxes.{boxDistance, boxGap, boxHolds, boxPenetration, boxWitness, edgeBox, middle, probe}
-use Rattle.section.specs.Boxes.{result, wellInside}
-use Rattle.section.specs.Points.{pointDistance}
+use Rattle.boxes.specs.Boxes.{boxDistance, boxGap, boxHolds, boxPenetration, boxWitness, edgeBox, middle, probe}
+use Rattle.points.specs.Overlap.{result}
+use Rattle.boxes.specs.Boxes.{wellInside}
+use Rattle.points.specs.Points.{pointDistance}
 use Rattle.profile.specs.Vertices.{count, endAt, hit, vertexAt}
 use Rattle.profile.specs.declared.shapes.Aabb.{Aabb}
 use Rattle.profile.specs.declared.shapes.Vertex.{Vertex}

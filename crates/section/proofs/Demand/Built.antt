@@ -11,10 +11,11 @@ use lib.Ieee.Fits.{and-l}
 use lib.ListN.{length, length-append, length-take, take}
 use Rattle.arith.specs.F64.{_≺_, _≼_, 𝟘, e-9}
 use Rattle.arith.specs.Num.{isFinite}
-use Rattle.profile.specs.Kept.{polygonKept, sectionKept}
-use Rattle.profile.specs.Builder.{keep, lastOf, polygonOf, polygonPoints, raised, samePoint, sectionOf}
-use Rattle.profile.specs.Builder.{sectionPoints}
-use Rattle.profile.specs.Refusals.{fewer, more, numbersRefusal, odd, polygonRefusal, refuse, sectionRefusal}
+use Rattle.builders.specs.Kept.{polygonKept, sectionKept}
+use Rattle.builders.specs.Builder.{keep, lastOf, polygonOf, polygonPoints, raised, samePoint, sectionOf}
+use Rattle.builders.specs.Builder.{sectionPoints}
+use Rattle.profile.specs.Refusals.{fewer, more, numbersRefusal, odd, refuse}
+use Rattle.builders.specs.Kept.{polygonRefusal, sectionRefusal}
 use Rattle.profile.specs.Vertices.{any, count, vertex, vertexAt}
 use Rattle.profile.specs.declared.shapes.Vertex.{Vertex}
 use Rattle.section.proofs.Demand.Acceptable.{Acceptable}

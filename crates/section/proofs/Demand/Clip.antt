@@ -7,11 +7,12 @@ use lib.Dec.{T, leb→le}
 use lib.Ieee.{Float, neg}
 use Rattle.arith.specs.F64.{_⊘_, _≺_, _≼_, 𝟘, 𝟙, ∞, e-15, e-18}
 use Rattle.arith.specs.Num.{abs}
-use Rattle.section.specs.Boxes.{clip, clipSide, corners, edgeBox, outside, part}
-use Rattle.section.specs.Segments.{segments}
+use Rattle.segments.specs.Clip.{clip, clipSide, outside, part}
+use Rattle.boxes.specs.Boxes.{corners, edgeBox}
+use Rattle.segments.specs.Segments.{segments}
 use Rattle.profile.specs.Vertices.{endAt, hit, vertexAt}
 use Rattle.profile.specs.declared.shapes.Aabb.{Aabb}
-use Rattle.section.specs.declared.shapes.Clip.{Clip}
+use Rattle.segments.specs.declared.shapes.Clip.{Clip}
 use Rattle.profile.specs.declared.shapes.Vertex.{Vertex}
 use Rattle.section.proofs.Demand.Bounds.{below-key, Finite, neg-finite, not-below-key, sub-upTo, zero-finite}
 use Rattle.section.proofs.Demand.Hits.{BoxUpTo, corners-upTo, endAt-upTo, HitUpTo, nearest-hit, none-yet}

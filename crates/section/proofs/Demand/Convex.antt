@@ -6,10 +6,10 @@ use mathlib.Core.Path.{refl}
 use lib.Ieee.{Float}
 use Rattle.arith.specs.F64.{_≼_, 𝟘, ∞, e-12}
 use Rattle.arith.specs.Num.{min, isFinite}
-use Rattle.section.specs.Convex.{anyCrossing, convexDistance, convexGap, convexNear, convexPenetration}
-use Rattle.section.specs.Convex.{convexPoint, convexRow, oneSided}
-use Rattle.section.specs.Points.{pointDistance}
-use Rattle.section.specs.Segments.{closest, segments}
+use Rattle.convex.specs.Convex.{anyCrossing, convexDistance, convexGap, convexNear, convexPenetration}
+use Rattle.convex.specs.Convex.{convexPoint, convexRow, oneSided}
+use Rattle.points.specs.Points.{pointDistance}
+use Rattle.segments.specs.Segments.{closest, segments}
 use Rattle.profile.specs.Vertices.{count, endAt, hit, vertexAt}
 use Rattle.profile.specs.declared.shapes.CollisionHit.{CollisionHit}
 use Rattle.profile.specs.declared.shapes.Vertex.{Vertex}

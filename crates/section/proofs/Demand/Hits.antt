@@ -12,7 +12,7 @@ use lib.ListN.{getD, length}
 use Rattle.arith.specs.F64.{_≺_, _≼_, ∞}
 use Rattle.arith.specs.Num.{min}
 use Rattle.arith.proofs.Laws.OrderHeld.{none-above-inf}
-use Rattle.section.specs.Boxes.{corners}
+use Rattle.boxes.specs.Boxes.{corners}
 use Rattle.section.specs.Demand.{UpTo}
 use Rattle.profile.specs.Vertices.{count, endAt, nearer, nearestOf, next, vertexAt}
 use Rattle.profile.specs.declared.shapes.Aabb.{Aabb}

@@ -10,9 +10,9 @@ use Rattle.arith.specs.F64.{_≺_, _≼_, 𝟘, ∞, e-9, e-12}
 use Rattle.arith.specs.Num.{abs, isFinite}
 use Rattle.arith.specs.declared.vector.Vec3.{Vec3}
 use Rattle.section.specs.Demand.{UpTo, offAxis}
-use Rattle.section.specs.Points.{inSection, meridian, pointDistance, sphereDistance, surface, surfaceNear}
-use Rattle.section.specs.Points.{surfaceStep}
-use Rattle.section.specs.Segments.{closest}
+use Rattle.points.specs.Points.{inSection, meridian, pointDistance, sphereDistance, surface, surfaceNear}
+use Rattle.points.specs.Points.{surfaceStep}
+use Rattle.segments.specs.Segments.{closest}
 use Rattle.profile.specs.Vertices.{count, endAt, hit, nearer, next, vertexAt}
 use Rattle.profile.specs.declared.shapes.CollisionHit.{CollisionHit}
 use Rattle.profile.specs.declared.shapes.Sphere.{Sphere}

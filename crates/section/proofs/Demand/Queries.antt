@@ -7,10 +7,10 @@ use lib.Dec.{T, leb}
 use lib.Ieee.{Float}
 use Rattle.arith.specs.declared.vector.Vec3.{Vec3}
 use Rattle.section.specs.Answers.{answer, boxAnswer, convexAnswer, pointAnswer, sphereAnswer}
-use Rattle.section.specs.Boxes.{boxDistance}
-use Rattle.section.specs.Convex.{convexDistance}
+use Rattle.boxes.specs.Boxes.{boxDistance}
+use Rattle.convex.specs.Convex.{convexDistance}
 use Rattle.section.specs.Demand.{Bounded, BoundedOffAxis, OfHit, UpTo}
-use Rattle.section.specs.Points.{meridian, pointDistance, sphereDistance}
+use Rattle.points.specs.Points.{meridian, pointDistance, sphereDistance}
 use Rattle.profile.specs.Refusals.{boxRefusal, convexRefusal, fewer, pointNumbers, pointRefusal, sphereRefusal}
 use Rattle.profile.specs.declared.shapes.Aabb.{Aabb}
 use Rattle.section.specs.declared.shapes.Answer.{Answer}

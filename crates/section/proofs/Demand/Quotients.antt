@@ -11,7 +11,7 @@ use Rattle.arith.specs.Num.{abs}
 use Rattle.arith.proofs.Laws.Bounded.{between-bounded, Bounded, div-bounded, div-bounded-neg, overflow}
 use Rattle.roots.proofs.Rounding.Key.{key, magnitude, mid, unit}
 use Rattle.roots.proofs.Rounding.Sum.{neg-key}
-use Rattle.section.specs.Segments.{clamp01}
+use Rattle.segments.specs.Segments.{clamp01}
 use Rattle.section.proofs.Demand.Bounds.{below-key, below-overflow, e-18-finite, e-24-finite, Finite}
 use Rattle.section.proofs.Demand.Bounds.{finite-number, neg-finite, not-below-key, not-le-key, one-finite}
 use Rattle.section.proofs.Demand.Bounds.{zero-finite, zero-key}

@@ -5,8 +5,8 @@ use lib.Dec.{T}
 use lib.Ieee.{Float, neg}
 use Rattle.arith.specs.F64.{_⊕_, _⊖_, _⊗_, _⊘_, _≺_, _≼_, 𝟘, 𝟙, e-18, e-24}
 use Rattle.arith.specs.Num.{abs}
-use Rattle.section.specs.Segments.{along, apart, clamp01, closest, closestPlaces, dot, minus, places, segments}
-use Rattle.section.specs.declared.shapes.Places.{Places}
+use Rattle.segments.specs.Segments.{along, apart, clamp01, closest, closestPlaces, dot, minus, places, segments}
+use Rattle.segments.specs.declared.shapes.Places.{Places}
 use Rattle.profile.specs.declared.shapes.Vertex.{Vertex}
 use Rattle.section.proofs.Demand.Bounds.{add-finite, add-upTo, Finite, finite-raise, finite-upTo, hypot-finite}
 use Rattle.section.proofs.Demand.Bounds.{mul-finite, neg-finite, sub-finite, sub-upTo}

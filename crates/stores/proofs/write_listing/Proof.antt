@@ -1,8 +1,8 @@
 -- `stores::write_listing` is safe: the listing lies within its array. Assumes nothing.
 use native.Mathlib.Omega.{arith}
 use lib.ListN.{length-take}
-use Rattle.store.specs.Listing.{inputListing}
-use Rattle.store.proofs.Listed.{front-within}
+use Rattle.store_listing.specs.Listing.{inputListing}
+use Rattle.store_listing.proofs.Listed.{front-within}
 use borrow.Author.Needs.{needs}
 use Rattle.stores.proofs.write_listing.Statement.{statement}
 use Rattle.stores.proofs.write_listing.Tie as tie

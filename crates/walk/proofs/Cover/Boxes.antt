@@ -12,9 +12,9 @@ use Rattle.roots.proofs.Numbers.{decide}
 use Rattle.roots.proofs.Rounding.KeyOrder.{key→le}
 use Rattle.arith.proofs.Laws.Order.{min-key, max-key, clamp-key}
 use Rattle.arith.proofs.Laws.Bounded.{Bounded, bounded-up, sub-bound, cond-bounded}
-use Rattle.walk.specs.Band.{halfWidth, spanAt}
+use Rattle.bands.specs.Band.{halfWidth, spanAt}
 use Rattle.walk.specs.Pieces.{widest, narrowest, boxOf, variation}
-use Rattle.walk.specs.declared.shapes.RadialBand.{RadialBand}
+use Rattle.bands.specs.declared.shapes.RadialBand.{RadialBand}
 use Rattle.walk.specs.declared.shapes.Piece.{Piece}
 use Rattle.walk.proofs.Cover.Numbers.{K, bounded-number}
 use Rattle.walk.proofs.Cover.Sizes.{Place, InLimit, zero-bounded, min-bounded, max-bounded}

@@ -10,7 +10,7 @@ use lib.ListN.{length}
 use lib.Ieee.{Float}
 use Rattle.walk.specs.Walk.{Walk, waiting, measured, walk, left}
 use Rattle.walk.specs.Cover.{waits}
-use Rattle.walk.specs.declared.shapes.RadialBand.{RadialBand}
+use Rattle.bands.specs.declared.shapes.RadialBand.{RadialBand}
 use Rattle.walk.specs.declared.shapes.Piece.{Piece}
 use Rattle.walk.proofs.Cover.Numbers.{Number}
 use Rattle.walk.proofs.Cover.Sizes.{InLimit}

@@ -16,7 +16,7 @@ use Rattle.arith.proofs.Laws.Bounded.{between-bounded}
 use Rattle.walk.specs.Pieces.{wholeWidth, boxOf, variation}
 use Rattle.walk.specs.Walk.{Walk, boxHit, start, sampled, waiting, measured, walk, walkAll}
 use Rattle.walk.specs.Cover.{Covered, Covers}
-use Rattle.walk.specs.declared.shapes.RadialBand.{RadialBand}
+use Rattle.bands.specs.declared.shapes.RadialBand.{RadialBand}
 use Rattle.walk.specs.declared.shapes.Piece.{Piece}
 use Rattle.arith.proofs.Laws.Extended.{sum-number}
 use Rattle.walk.proofs.Cover.Numbers.{K, Number, make-number, bounded-number}

@@ -15,9 +15,9 @@ use Rattle.roots.proofs.Rounding.Sum.{add-key, sub-key}
 use Rattle.arith.proofs.Laws.Bounded.{bounded-within, between-bounded, add-bound, sub-bound}
 use Rattle.arith.proofs.Laws.Middle.{half, half-is}
 use Rattle.arith.proofs.Laws.Depth.{Level, level-start, level-wide, level-down, Scale, split}
-use Rattle.walk.specs.Band.{mean}
+use Rattle.bands.specs.Band.{mean}
 use Rattle.walk.specs.Pieces.{piece, wholeWidth}
-use Rattle.walk.specs.declared.shapes.RadialBand.{RadialBand}
+use Rattle.bands.specs.declared.shapes.RadialBand.{RadialBand}
 use Rattle.walk.specs.declared.shapes.Piece.{Piece}
 use Rattle.arith.proofs.Laws.Extended.{sub-le-add}
 use Rattle.walk.proofs.Cover.Numbers.{K, M, Finite, Number, bounded-number, zero-number, zero-key}

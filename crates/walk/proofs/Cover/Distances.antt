@@ -10,14 +10,16 @@ use Rattle.arith.specs.F64.{_≺_, _≼_, 𝟘, ∞, e-8, e-9, e-12}
 use Rattle.arith.specs.Num.{isFinite}
 use Rattle.arith.proofs.Laws.Hypot.{hypot-fits}
 use Rattle.profile.specs.Vertices.{hit, upto, nearer, nearestOf, count, vertexAt, endAt}
-use Rattle.section.specs.Segments.{closest, segments}
-use Rattle.section.specs.Points.{surface, surfaceStep, surfaceNear, inSection, pointDistance}
-use Rattle.section.specs.Boxes.{clip, corners, edgeBox, probe, boxGap, boxPenetration, boxHolds, result, boxDistance}
+use Rattle.segments.specs.Segments.{closest, segments}
+use Rattle.points.specs.Points.{surface, surfaceStep, surfaceNear, inSection, pointDistance}
+use Rattle.segments.specs.Clip.{clip}
+use Rattle.boxes.specs.Boxes.{corners, edgeBox, probe, boxGap, boxPenetration, boxHolds, boxDistance}
+use Rattle.points.specs.Overlap.{result}
 use Rattle.profile.specs.declared.shapes.Vertex.{Vertex}
 use Rattle.profile.specs.declared.shapes.CollisionHit.{CollisionHit}
 use Rattle.profile.specs.declared.shapes.Aabb.{Aabb}
 use Rattle.walk.specs.Walk.{sampleAt, sampleZ, sampled}
-use Rattle.walk.specs.declared.shapes.RadialBand.{RadialBand}
+use Rattle.bands.specs.declared.shapes.RadialBand.{RadialBand}
 use Rattle.arith.proofs.Laws.Extended.{neg-number}
 use Rattle.walk.proofs.Cover.Numbers.{Number, number-fits, make-number, cond-number, zero-number}
 

@@ -10,10 +10,10 @@ use lib.ListN.{length}
 use lib.Ieee.{Float}
 use Rattle.arith.specs.F64.{_⊖_}
 use Rattle.roots.proofs.Numbers.{decide}
-use Rattle.walk.specs.Band.{mean}
+use Rattle.bands.specs.Band.{mean}
 use Rattle.walk.specs.Pieces.{variation}
 use Rattle.walk.specs.Walk.{Walk, halved, marked, boxHit, waiting, measured, walk}
-use Rattle.walk.specs.declared.shapes.RadialBand.{RadialBand}
+use Rattle.bands.specs.declared.shapes.RadialBand.{RadialBand}
 use Rattle.walk.specs.declared.shapes.Piece.{Piece}
 use Rattle.walk.proofs.Cover.Numbers.{K, Number}
 use Rattle.walk.proofs.Cover.Sizes.{InLimit}

@@ -19,8 +19,8 @@ use Rattle.arith.proofs.Laws.Monotone.{keySize, square-key-mono, sub-key-mono}
 use Rattle.arith.proofs.Laws.Bounded.{Bounded, sub-bound, mul-bound}
 use Rattle.arith.proofs.Laws.HypotKey.{sqrt-is, root-not-negative}
 use Rattle.arith.proofs.Laws.RootBounded.{sqrt-bounded}
-use Rattle.walk.specs.Band.{halfWidth}
-use Rattle.walk.specs.declared.shapes.RadialBand.{RadialBand}
+use Rattle.bands.specs.Band.{halfWidth}
+use Rattle.bands.specs.declared.shapes.RadialBand.{RadialBand}
 use Rattle.arith.proofs.Laws.Extended.{sub-self}
 use Rattle.walk.proofs.Cover.Numbers.{K, M, Finite, zero-number, zero-key}
 use Rattle.walk.proofs.Cover.Sizes.{Place, InLimit, zero-bounded}

@@ -17,7 +17,7 @@ use Rattle.profile.specs.declared.shapes.CollisionHit.{CollisionHit}
 use Rattle.walk.specs.Pieces.{boxOf}
 use Rattle.walk.specs.Walk.{Walk, start, boxHit, waiting, measured, walk, reported}
 use Rattle.walk.specs.Cover.{Least}
-use Rattle.walk.specs.declared.shapes.RadialBand.{RadialBand}
+use Rattle.bands.specs.declared.shapes.RadialBand.{RadialBand}
 use Rattle.walk.specs.declared.shapes.Piece.{Piece}
 use Rattle.walk.proofs.Cover.Numbers.{K, Number, cond-number}
 use Rattle.walk.proofs.Cover.Distances.{infinite-number, box-number}

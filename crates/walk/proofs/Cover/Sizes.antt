@@ -7,7 +7,7 @@ use Rattle.arith.specs.F64.{_≼_, 𝟘}
 use Rattle.arith.specs.Num.{min, max}
 use Rattle.roots.proofs.Rounding.Key.{plusZero}
 use Rattle.arith.proofs.Laws.Bounded.{Bounded, cond-bounded, plusZero-bounded}
-use Rattle.walk.specs.declared.shapes.RadialBand.{RadialBand}
+use Rattle.bands.specs.declared.shapes.RadialBand.{RadialBand}
 
 abbrev pub Given : Float → Type 0
 Given x = Bounded binary64 1094 x

@@ -18,8 +18,8 @@ use Rattle.arith.proofs.Laws.Monotone.{keySize, add-key-mono, sub-key-mono}
 use Rattle.arith.proofs.Laws.Bounded.{Bounded, add-bound, sub-bound, cond-bounded}
 use Rattle.arith.proofs.Laws.HypotKey.{hypot-key-mono, hypot-number-finite}
 use Rattle.arith.proofs.Laws.RootBounded.{hypot-bound}
-use Rattle.walk.specs.Band.{toward0, spanAt}
-use Rattle.walk.specs.declared.shapes.RadialBand.{RadialBand}
+use Rattle.bands.specs.Band.{toward0, spanAt}
+use Rattle.bands.specs.declared.shapes.RadialBand.{RadialBand}
 use Rattle.arith.proofs.Laws.Extended.{sub-le-add}
 use Rattle.walk.proofs.Cover.Numbers.{K, M, Number, Finite, bounded-number, cond-number, zero-number, zero-key}
 use Rattle.walk.proofs.Cover.Sizes.{Given, InLimit, zero-bounded, max-bounded}

@@ -17,7 +17,7 @@ use Rattle.profile.specs.Vertices.{hit, nearer}
 use Rattle.profile.specs.declared.shapes.CollisionHit.{CollisionHit}
 use Rattle.walk.specs.Pieces.{boxOf, variation}
 use Rattle.walk.specs.Walk.{dropped, better, halved, boxHit, waiting}
-use Rattle.walk.specs.declared.shapes.RadialBand.{RadialBand}
+use Rattle.bands.specs.declared.shapes.RadialBand.{RadialBand}
 use Rattle.walk.specs.declared.shapes.Piece.{Piece}
 use Rattle.arith.proofs.Laws.Extended.{sum-number, sum-ge}
 use Rattle.walk.proofs.Cover.Numbers.{K, Number, Finite, number-fits, e-12-finite, e-12-positive}

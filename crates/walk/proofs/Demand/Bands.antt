@@ -26,11 +26,11 @@ use Rattle.section.proofs.Demand.Hits.{BoxUpTo}
 use Rattle.section.proofs.Demand.Points.{Vec3UpTo}
 use Rattle.section.proofs.Demand.Steps.{pick}
 use Rattle.section.proofs.Demand.UpTo.{upTo-raise}
-use Rattle.walk.specs.Band.{axialBox, bandOf, halfWidth, mean, spanAt, toward0}
+use Rattle.bands.specs.Band.{axialBox, bandOf, halfWidth, mean, spanAt, toward0}
 use Rattle.walk.specs.Walk.{thinBox}
-use Rattle.walk.specs.declared.shapes.Cylinder.{Cylinder}
-use Rattle.walk.specs.declared.shapes.RadialBand.{RadialBand}
-use Rattle.walk.specs.declared.shapes.Span.{Span}
+use Rattle.bands.specs.declared.shapes.Cylinder.{Cylinder}
+use Rattle.bands.specs.declared.shapes.RadialBand.{RadialBand}
+use Rattle.bands.specs.declared.shapes.Span.{Span}
 
 -- one of two
 pub max-keeps : (P : Float → Type 0) {x y : Float} → P x → P y → P (max x y)

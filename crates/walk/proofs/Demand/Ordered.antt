@@ -1,30 +1,25 @@
--- Every box that a cylinder is measured by has z0 ≤ z1 and 0 ≤ r0 ≤ r1: number 10 would turn none of them down. For
+-- Every box that a walk measures has z0 ≤ z1 and 0 ≤ r0 ≤ r1: number 10 would turn none of them down. For
 -- the middle of a piece lies between its ends, and its two spans are in order.
 use Prim.Native.Nat.{ℕ, zero, suc, _+_, _^_, _≤_, _<_}
 use mathlib.Core.Bool.{not}
 use mathlib.Core.List.{List, [], _∷_}
-use mathlib.Core.Path.{_≡_}
 use native.Mathlib.Nat.{le-trans}
 use lib.Dec.{T, lit<}
 use lib.Ieee.{Float, binary64, ofBits}
-use Rattle.arith.specs.F64.{_≺_, 𝟘, ½, e-9}
+use Rattle.arith.specs.F64.{_≺_, 𝟘, ½}
 use Rattle.arith.proofs.Laws.Bounded.{bounded-within}
 use Rattle.arith.proofs.Laws.Middle.{Between, IsHalf, half, half-is, middle}
 use Rattle.roots.proofs.Rounding.Key.{key, mid}
-use Rattle.section.proofs.Demand.Accepted.{refuse-none, section-taken}
 use Rattle.section.proofs.Demand.Bounds.{Finite, add-finite, finite-upTo, half-finite, zero-finite}
 use Rattle.section.proofs.Demand.Lists.{All, all-map, cons, nil}
 use Rattle.section.proofs.Demand.Steps.{pick}
-use Rattle.walk.specs.Band.{axialBox, bandOf, mean}
-use Rattle.walk.specs.Cylinders.{cylinderNumbers, cylinderRefusal}
+use Rattle.bands.specs.Band.{mean}
 use Rattle.walk.specs.Pieces.{boxOf, narrowest, variation, wholeWidth, widest}
 use Rattle.walk.specs.Walk.{Walk, boxHit, halved, halves, sampled, start, thinBox, walk, walkAll}
-use Rattle.walk.specs.declared.shapes.Cylinder.{Cylinder}
 use Rattle.walk.specs.declared.shapes.Piece.{Piece}
-use Rattle.walk.specs.declared.shapes.RadialBand.{RadialBand}
-use Rattle.walk.proofs.Demand.Bands.{BandUpTo, bandOf-upTo, max-keeps, min-keeps, spanAt-finite}
-use Rattle.walk.proofs.Demand.Cylinders.{numbers-upTo}
-use Rattle.walk.proofs.Demand.OrderedSpans.{Ordered, axialBox-ordered, span-least, span-order}
+use Rattle.bands.specs.declared.shapes.RadialBand.{RadialBand}
+use Rattle.walk.proofs.Demand.Bands.{BandUpTo, max-keeps, min-keeps, spanAt-finite}
+use Rattle.walk.proofs.Demand.OrderedSpans.{Ordered, span-least, span-order}
 use Rattle.walk.proofs.Demand.Orders.{add-not-less, key-le, le-itself, max-left, min-greatest, min-left}
 use Rattle.walk.proofs.Demand.Orders.{sub-not-more, zero-le-key}
 use Rattle.walk.proofs.Demand.Pieces.{PieceFinite, narrowest-finite, narrowest-half, widest-finite, widest-half}
@@ -106,22 +101,3 @@ module _ (s : List Float) {b : RadialBand} (B : BandUpTo b) (tol : Float) where
   walkAll-ordered h cap n =
       all-map (λ p P. boxOf-ordered B P)
       (walk-sorted cap (wholeWidth b ∷ []) (start (sampled s b n)) (cons (wholeWidth-sorted B h) nil) nil)
-
--- ---- the boxes of a cylinder that is not turned down
-pub record BoxesOrdered (s : List Float) (c : Cylinder) : Type 0 where
-  pub along : Ordered (axialBox c)
-  pub thin : Ordered (thinBox (bandOf c))
-  pub across : All (λ (p : Piece). Ordered (boxOf (bandOf c) p)) (walkAll s (bandOf c) e-9 8192 16 .seen)
-
-pub boxes-ordered : (s : List Float) (c : Cylinder) → cylinderRefusal s c ≡ 0 → BoxesOrdered s c
-unfolding cylinderRefusal
-boxes-ordered s c e =
-    let A = section-taken s (cylinderNumbers c) _ e in
-    let C = numbers-upTo (A .body) in
-    let B = bandOf-upTo C in
-    let h = refuse-none 8 (c .radius ≺ 𝟘) _ (A .own-passed) .0 in
-    record {
-      along = axialBox-ordered C h;
-      thin = thinBox-ordered B;
-      across = walkAll-ordered s B e-9 (unfold bandOf in h) 8192 16;
-    }

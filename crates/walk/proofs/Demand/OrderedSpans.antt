@@ -14,9 +14,9 @@ use Rattle.section.specs.Demand.{UpTo}
 use Rattle.profile.specs.declared.shapes.Aabb.{Aabb}
 use Rattle.section.proofs.Demand.Bounds.{Finite, add-finite, add-upTo, finite-upTo, hypot-finite}
 use Rattle.section.proofs.Demand.Bounds.{hypot-upTo, sub-finite, sub-upTo, zero-finite, zero-key}
-use Rattle.walk.specs.Band.{axialBox, mean, spanAt, toward0}
-use Rattle.walk.specs.declared.shapes.Cylinder.{Cylinder}
-use Rattle.walk.specs.declared.shapes.RadialBand.{RadialBand}
+use Rattle.bands.specs.Band.{axialBox, mean, spanAt, toward0}
+use Rattle.bands.specs.declared.shapes.Cylinder.{Cylinder}
+use Rattle.bands.specs.declared.shapes.RadialBand.{RadialBand}
 use Rattle.walk.proofs.Demand.Bands.{BandUpTo, CylinderUpTo, max-keeps, mean-finite, toward0-upTo}
 use Rattle.walk.proofs.Demand.Orders.{key-le, max-left, max-right, max-least, min-le-max, add-not-less}
 use Rattle.walk.proofs.Demand.Orders.{sub-not-more, hypot-not-negative, hypot-not-more, NoFarther}

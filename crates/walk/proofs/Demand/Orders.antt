@@ -25,7 +25,7 @@ use Rattle.section.specs.Demand.{UpTo}
 use Rattle.section.proofs.Demand.Bounds.{Finite, finite-number}
 use Rattle.section.proofs.Demand.Bounds.{zero-finite, zero-key}
 use Rattle.section.proofs.Demand.Steps.{pick}
-use Rattle.walk.specs.Band.{toward0}
+use Rattle.bands.specs.Band.{toward0}
 
 -- ---- finite numbers, by their keys
 pub key-le : {i j : ℕ} {x y : Float} → Finite i x → Finite j y → key binary64 x ≤ key binary64 y → T (x ≼ y)

@@ -8,11 +8,11 @@ use Rattle.section.proofs.Demand.Bounds.{sub-finite, sub-upTo, zero-finite}
 use Rattle.section.proofs.Demand.Hits.{BoxUpTo}
 use Rattle.section.proofs.Demand.Lists.{All, cons}
 use Rattle.section.proofs.Demand.Steps.{pick}
-use Rattle.walk.specs.Band.{halfWidth}
+use Rattle.bands.specs.Band.{halfWidth}
 use Rattle.walk.specs.Pieces.{boxOf, narrowest, variation, wholeWidth, widest}
 use Rattle.walk.specs.Walk.{halves}
 use Rattle.walk.specs.declared.shapes.Piece.{Piece}
-use Rattle.walk.specs.declared.shapes.RadialBand.{RadialBand}
+use Rattle.bands.specs.declared.shapes.RadialBand.{RadialBand}
 use Rattle.walk.proofs.Demand.Bands.{BandUpTo, SpanFinite, halfWidth-finite, max-keeps, min-keeps}
 use Rattle.walk.proofs.Demand.Bands.{spanAt-finite}
 

@@ -6,16 +6,16 @@ use mathlib.Core.Path.{refl}
 use native.Mathlib.Nat.{le-of-suc-le-suc}
 use lib.Ieee.{Float}
 use Rattle.arith.specs.F64.{𝟘, ∞}
-use Rattle.section.specs.Points.{pointDistance}
+use Rattle.points.specs.Points.{pointDistance}
 use Rattle.profile.specs.Vertices.{hit, nearer, nearestOf, vertex}
 use Rattle.section.proofs.Demand.Bounds.{Finite, add-finite, finite-raise, finite-upTo, half-finite, mul-finite}
 use Rattle.section.proofs.Demand.Bounds.{sub-finite, zero-finite}
 use Rattle.section.proofs.Demand.Hits.{BestUpTo, VertexUpTo, VerticesUpTo, nearer-best, none-yet}
 use Rattle.section.proofs.Demand.Points.{point-best}
 use Rattle.section.proofs.Demand.Steps.{upto-keeps}
-use Rattle.walk.specs.Band.{halfWidth, spanAt}
+use Rattle.bands.specs.Band.{halfWidth, spanAt}
 use Rattle.walk.specs.Walk.{sampleAt, sampleZ, sampled}
-use Rattle.walk.specs.declared.shapes.RadialBand.{RadialBand}
+use Rattle.bands.specs.declared.shapes.RadialBand.{RadialBand}
 use Rattle.walk.proofs.Demand.Bands.{BandUpTo, SpanFinite, halfWidth-finite, spanAt-finite}
 use Rattle.walk.proofs.Demand.Intervals.{Intervals, interval-finite}
 use Rattle.walk.proofs.Demand.Pieces.{wholeWidth-finite}

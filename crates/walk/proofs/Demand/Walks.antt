@@ -22,7 +22,7 @@ use Rattle.walk.specs.Pieces.{variation}
 use Rattle.walk.specs.Walk.{Walk, better, boxHit, dropped, halved, measured, start, waiting, walk}
 use Rattle.walk.specs.Walk.{walkAll, walked}
 use Rattle.walk.specs.declared.shapes.Piece.{Piece}
-use Rattle.walk.specs.declared.shapes.RadialBand.{RadialBand}
+use Rattle.bands.specs.declared.shapes.RadialBand.{RadialBand}
 use Rattle.walk.proofs.Demand.Bands.{BandUpTo}
 use Rattle.walk.proofs.Demand.Intervals.{Intervals}
 use Rattle.walk.proofs.Demand.Pieces.{PieceFinite, boxOf-upTo, halves-finite, variation-finite}

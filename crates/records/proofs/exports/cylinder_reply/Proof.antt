@@ -1,7 +1,7 @@
 -- `records::exports::cylinder_reply` meets its contract: the reply of the answer on the front. Assumes nothing.
 use mathlib.Core.Path.{_∙_, ap}
 use borrow.Author.Needs.{needs}
-use Rattle.walk.specs.Cylinders.{cylinderAnswer}
+use Rattle.cylinders.specs.Cylinders.{cylinderAnswer}
 use Rattle.records.specs.Replies.{cylinderOf, cylinderReply}
 use Rattle.records.specs.Steps.{OfCylinder}
 use Rattle.records.proofs.Replied.{replied}

@@ -1,6 +1,6 @@
 -- `records::exports::jorghipa_cylinder_of` meets its contract: the walk of `Layer`, at the records of C. Assumes nothing.
 use denote.Struct.Laws as struct-laws
-use Rattle.walk.specs.declared.shapes.CylinderAnswer.the-variants.{Refused}
+use Rattle.cylinders.specs.declared.shapes.CylinderAnswer.the-variants.{Refused}
 use Rattle.records.specs.Replies.{cylinderReply}
 use Rattle.records.specs.Steps.{OfBar}
 use Rattle.records.proofs.replies.Bar as body

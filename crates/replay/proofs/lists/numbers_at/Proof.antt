@@ -4,7 +4,7 @@ use mathlib.Core.Path.{_≡_, refl}
 use native.Mathlib.Omega.{arith}
 use borrow.Author.Needs.{needs}
 use lib.ListN.{length, length-set}
-use Rattle.profile.specs.Builder.{filled}
+use Rattle.builders.specs.Builder.{filled}
 use Rattle.replay.specs.Lists.{pastNumbers, numbersAt}
 use Rattle.replay.proofs.Fronts.{past-more, list-more}
 use Rattle.replay.proofs.lists.numbers_at.Statement.{statement}

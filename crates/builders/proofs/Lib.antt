@@ -1,0 +1,2 @@
+-- Laws of the builders.
+pub mod Builders

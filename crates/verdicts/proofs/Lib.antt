@@ -1,0 +1,2 @@
+-- The law of a refused verdict.
+pub mod Refusals
