@@ -8,10 +8,6 @@ ghost use Rattle.profile.specs.Vertices.{count, vertexAt, endAt, any, nearer, n
 ghost use Rattle.segments.specs.Segments.{segments};
 ghost use Rattle.boxes.specs.Boxes.{corners, edgeBox, wellInside, middle, crossesBox};
 ghost use Rattle.boxes.specs.Boxes.{boxGap, boxPenetration, boxWitness, boxHolds, boxDistance};
-use segments::clip_segment;
-use segments::lerp;
-use segments::seg_seg_point_on_first;
-use segments::INTERIOR;
 use points::deeper_at;
 use points::result_of;
 use profile::Aabb;
@@ -20,6 +16,10 @@ use profile::Vertex;
 use profile::end_at;
 use profile::nearer_of;
 use profile::vertex_at;
+use segments::INTERIOR;
+use segments::clip_segment;
+use segments::lerp;
+use segments::seg_seg_point_on_first;
 
 // A side of the box may be nearer to the edge from a to b.
 fn nearest_side(a: Vertex, b: Vertex, x: Aabb, best: CollisionHit) -> CollisionHit

@@ -2,13 +2,16 @@
 use Prim.Native.Nat.{ℕ, _+_, _*_}
 use mathlib.Core.Bool.{Bool, _&&_, cond}
 use mathlib.Core.List.{List, []}
+use mathlib.Core.Path.{_≡_}
 use lib.ListN.{set, take}
 use lib.Dec.{ltb}
 use lib.Ieee.{Float}
 use Rattle.arith.specs.F64.{𝟘}
 use Rattle.profile.specs.Vertices.{vertex, count, vertexAt, upto}
 use Rattle.profile.specs.declared.shapes.Vertex.{Vertex}
+use Rattle.profile.specs.Replies.{Reply}
 use Rattle.builders.specs.Builder.{samePoint, lastOf, keep, raised, filled}
+use Rattle.builders.specs.Kept.{told}
 use Rattle.builders.specs.declared.builder.Run.{Run}
 use Rattle.builders.specs.declared.shapes.Kept.{Kept}
 use Rattle.builders.specs.declared.shapes.Kept.the-variants.{Numbers, Refused}
@@ -48,6 +51,11 @@ upTo limit kept space = filled (take (limit * 2) kept) space
 -- number 8, or how many numbers are kept
 unfoldable pub threeKept : ℕ → Kept
 threeKept vertices = cond (ltb vertices 3) (Refused 8) (Numbers (vertices * 2))
+
+-- what a builder promises: its answer, and the space as it leaves it
+pub record Builds (answer : Reply ℕ) (kept space : List Float) (r : Kept) (after : List Float) : Type 0 where
+  pub equal : told r ≡ answer
+  pub space-after : after ≡ filled kept space
 
 -- how many numbers are handed back
 abbrev pub numbersOf : Kept → ℕ

@@ -7,11 +7,11 @@ ghost use lib.ListN.{length};
 ghost use Rattle.arith.specs.F64.{_≺_, e-9};
 ghost use Rattle.profile.specs.Vertices.{count, vertexAt, any};
 ghost use Rattle.builders.specs.Builder as builder;
-ghost use Rattle.builders.specs.Kept.{sectionAnswer, polygonAnswer, sectionKept, polygonKept};
-ghost use Rattle.builders.specs.Steps.{repeats, pushed, pushedSpace, written, pointOf, keptPoints, runOf, upTo, threeKept, numbersOf};
-use profile::list_refusal;
+ghost use Rattle.builders.specs.Kept.{told, belowAxis, sectionAnswer, polygonAnswer, sectionKept, polygonKept};
+ghost use Rattle.builders.specs.Steps.{repeats, pushed, pushedSpace, written, pointOf, keptPoints, runOf, upTo, threeKept, numbersOf, Builds};
 use super::shapes::Kept;
 use profile::Vertex;
+use profile::list_refusal;
 use profile::vertex_at;
 
 // The last vertex that is kept, (0, 0) while there is none, and how many are.
@@ -142,7 +142,7 @@ fn push_polygon(points: &[f64], space: &mut [f64], limit: usize) -> usize
 
 // A radius below -1e-9.
 fn any_below_axis(points: &[f64]) -> bool
-    ensures { λ r. ⌜ r ≡ any (λ k. vertexAt (now (points .entry)) k .r ≺ neg e-9) (count (now (points .entry))) ⌝ }
+    ensures { λ r. ⌜ r ≡ belowAxis (now (points .entry)) ⌝ }
 {
     let n = points.len() / 2;
     let mut k = 0;
@@ -168,7 +168,7 @@ fn three_kept(vertices: usize) -> Kept
 
 // What write_section answers; nothing is written.
 pub fn check_section(points: &[f64], space: &[f64]) -> Kept
-    ensures { λ r. ⌜ r ≡ sectionAnswer (now (points .entry)) (now (space .entry)) ⌝ }
+    ensures { λ r. ⌜ told r ≡ sectionAnswer (now (points .entry)) (now (space .entry)) ⌝ }
 {
     let number = list_refusal(points, 2, 254);
     if number != 0 {
@@ -187,7 +187,7 @@ pub fn check_section(points: &[f64], space: &[f64]) -> Kept
 
 // What write_polygon answers; nothing is written.
 pub fn check_polygon(points: &[f64], space: &[f64]) -> Kept
-    ensures { λ r. ⌜ r ≡ polygonAnswer (now (points .entry)) (now (space .entry)) ⌝ }
+    ensures { λ r. ⌜ told r ≡ polygonAnswer (now (points .entry)) (now (space .entry)) ⌝ }
 {
     let number = list_refusal(points, 3, 256);
     if number != 0 {
@@ -204,9 +204,8 @@ pub fn check_polygon(points: &[f64], space: &[f64]) -> Kept
 // Writes the kept points to the front of the space; what is turned down leaves the space as it was.
 pub fn write_section(points: &[f64], space: &mut [f64]) -> Kept
     ensures { λ r. ⌜
-        (r ≡ sectionAnswer (now (points .entry)) (now (space .entry)))
-        × (now (space .exit)
-        ≡ builder.filled (sectionKept (now (points .entry)) (now (space .entry))) (now (space .entry)))
+        (let s = now (points .entry) in let free = now (space .entry) in
+        Builds (sectionAnswer s free) (sectionKept s free) free r (now (space .exit)))
         ⌝ }
 {
     let answer = check_section(points, &space[..]);
@@ -221,9 +220,8 @@ pub fn write_section(points: &[f64], space: &mut [f64]) -> Kept
 
 pub fn write_polygon(points: &[f64], space: &mut [f64]) -> Kept
     ensures { λ r. ⌜
-        (r ≡ polygonAnswer (now (points .entry)) (now (space .entry)))
-        × (now (space .exit)
-        ≡ builder.filled (polygonKept (now (points .entry)) (now (space .entry))) (now (space .entry)))
+        (let s = now (points .entry) in let free = now (space .entry) in
+        Builds (polygonAnswer s free) (polygonKept s free) free r (now (space .exit)))
         ⌝ }
 {
     let answer = check_polygon(points, &space[..]);

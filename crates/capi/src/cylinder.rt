@@ -2,13 +2,14 @@
 ghost use mathlib.Core.Path.{_≡_};
 ghost use Rattle.arith.specs.Vector.{vec};
 ghost use Rattle.cylinders.specs.Cylinders.{cylinderAnswer};
-ghost use Rattle.capi.specs.Interface.{Gives, GivesCounts, places, counts, hitPart, mark, Few, Counted};
+ghost use Rattle.cylinders.specs.Promised.{Promised};
+ghost use Rattle.capi.specs.Interface.{Measures, Few, bar, places, counts, both, mark, hitCounts, cylinderPlaces};
 use super::distances::give;
 use arith::Vec3;
-use section::Answer;
 use bands::Cylinder;
-use cylinders::CylinderAnswer;
-use walk::CylinderHit;
+use cylinders::CountedAnswer;
+use section::Answer;
+use walk::CountedHit;
 
 fn mark_of(cut: bool) -> u32
     ensures { λ r. ⌜ r ≡ mark cut ⌝ }
@@ -17,9 +18,9 @@ fn mark_of(cut: bool) -> u32
 }
 
 // Puts the counts and the mark of a hit into the lent places.
-fn give_counts(h: CylinderHit, boxes: &mut u32, waiting: &mut u32, cut: &mut u32)
+fn give_counts(h: CountedHit, boxes: &mut u32, waiting: &mut u32, cut: &mut u32)
     requires { ⌜ Few h ⌝ }
-    ensures { λ r. ⌜ Counted h (counts (now (boxes .exit)) (now (waiting .exit)) (now (cut .exit))) ⌝ }
+    ensures { λ r. ⌜ counts (now (boxes .exit)) (now (waiting .exit)) (now (cut .exit)) ≡ hitCounts h ⌝ }
 {
     *boxes = h.boxes as u32;
     *waiting = h.waiting as u32;
@@ -44,14 +45,12 @@ pub extern "C" fn jorghipa_cylinder(
     cut: &mut u32,
 ) -> u32
     ensures { λ r. ⌜
-        Gives
-        (hitPart (cylinderAnswer (now (section .entry)) (record { a = vec ax ay az; b = vec bx by bz; radius = radius }))) r
-        (places (now (distance .entry)) (now («witness_z» .entry)) (now («witness_radius» .entry)))
-        (places (now (distance .exit)) (now («witness_z» .exit)) (now («witness_radius» .exit)))
-        × GivesCounts
-        (cylinderAnswer (now (section .entry)) (record { a = vec ax ay az; b = vec bx by bz; radius = radius }))
-        (counts (now (boxes .entry)) (now (waiting .entry)) (now (cut .entry)))
-        (counts (now (boxes .exit)) (now (waiting .exit)) (now (cut .exit))) ⌝ }
+        (let s = now (section .entry) in let c = bar (vec ax ay az) (vec bx by bz) radius in
+        Measures (Promised s c) cylinderPlaces (cylinderAnswer s c) r
+        (both (places (now (distance .entry)) (now («witness_z» .entry)) (now («witness_radius» .entry)))
+        (counts (now (boxes .entry)) (now (waiting .entry)) (now (cut .entry))))
+        (both (places (now (distance .exit)) (now («witness_z» .exit)) (now («witness_radius» .exit)))
+        (counts (now (boxes .exit)) (now (waiting .exit)) (now (cut .exit))))) ⌝ }
 {
     let a = Vec3 {
         x: ax,
@@ -65,11 +64,11 @@ pub extern "C" fn jorghipa_cylinder(
     };
     let answer = cylinders::query_cylinder(section, Cylinder { a, b, radius });
     match answer {
-        CylinderAnswer::Hit(h) => {
+        CountedAnswer::Hit(h) => {
             let hit = h.hit;
             give_counts(h, boxes, waiting, cut);
             give(Answer::Hit(hit), distance, witness_z, witness_radius)
         }
-        CylinderAnswer::Refused(n) => n,
+        CountedAnswer::Refused(n) => n,
     }
 }

@@ -1,17 +1,18 @@
 // The verdicts: 1 collision, 0 clear.
 ghost use Rattle.arith.specs.Vector.{vec};
 ghost use Rattle.boxes.specs.Boxes.{aabb};
-ghost use Rattle.verdicts.specs.Verdicts.{sphereVerdict, boxVerdict, cylinderVerdict, convexVerdict};
-ghost use Rattle.capi.specs.Interface.{Judges};
+ghost use Rattle.bodies.specs.declared.shapes.Body.the-variants as body·kinds;
+ghost use Rattle.verdicts.specs.Verdicts.{told, bodyVerdict, convexVerdict};
+ghost use Rattle.capi.specs.Interface.{Gives, ball, bar, mark};
 use arith::Vec3;
+use bands::Cylinder;
 use profile::Aabb;
 use profile::Sphere;
-use bands::Cylinder;
 use verdicts::Verdict;
 
 // Puts a verdict into its place, and gives the number of a refusal.
 fn judge(verdict: Verdict, collision: &mut u32) -> u32
-    ensures { λ r. ⌜ Judges verdict r (now (collision .entry)) (now (collision .exit)) ⌝ }
+    ensures { λ r. ⌜ Gives mark (told verdict) r (now (collision .entry)) (now (collision .exit)) ⌝ }
 {
     match verdict {
         Verdict::Clear => {
@@ -36,7 +37,7 @@ pub extern "C" fn jorghipa_verdict_sphere(
     clearance: f64,
     collision: &mut u32,
 ) -> u32
-    ensures { λ r. ⌜ Judges (sphereVerdict (now (section .entry)) (record { center = vec x y z; radius = radius }) clearance)
+    ensures { λ r. ⌜ Gives mark (bodyVerdict (now (section .entry)) (body·kinds.Sphere (ball (vec x y z) radius)) clearance)
         r (now (collision .entry)) (now (collision .exit)) ⌝ }
 {
     let center = Vec3 { x, y, z };
@@ -54,7 +55,7 @@ pub extern "C" fn jorghipa_verdict_box(
     clearance: f64,
     collision: &mut u32,
 ) -> u32
-    ensures { λ r. ⌜ Judges (boxVerdict (now (section .entry)) (aabb z0 z1 r0 r1) clearance)
+    ensures { λ r. ⌜ Gives mark (bodyVerdict (now (section .entry)) (body·kinds.Box (aabb z0 z1 r0 r1)) clearance)
         r (now (collision .entry)) (now (collision .exit)) ⌝ }
 {
     let verdict = verdicts::verdict_box(section, Aabb { z0, z1, r0, r1 }, clearance);
@@ -74,8 +75,8 @@ pub extern "C" fn jorghipa_verdict_cylinder(
     clearance: f64,
     collision: &mut u32,
 ) -> u32
-    ensures { λ r. ⌜ Judges
-        (cylinderVerdict (now (section .entry)) (record { a = vec ax ay az; b = vec bx by bz; radius = radius }) clearance)
+    ensures { λ r. ⌜ Gives mark
+        (bodyVerdict (now (section .entry)) (body·kinds.Cylinder (bar (vec ax ay az) (vec bx by bz) radius)) clearance)
         r (now (collision .entry)) (now (collision .exit)) ⌝ }
 {
     let a = Vec3 {
@@ -99,7 +100,7 @@ pub extern "C" fn jorghipa_verdict_convex(
     clearance: f64,
     collision: &mut u32,
 ) -> u32
-    ensures { λ r. ⌜ Judges (convexVerdict (now (convex .entry)) (now (section .entry)) clearance)
+    ensures { λ r. ⌜ Gives mark (convexVerdict (now (convex .entry)) (now (section .entry)) clearance)
         r (now (collision .entry)) (now (collision .exit)) ⌝ }
 {
     let verdict = verdicts::verdict_convex(section, convex, clearance);

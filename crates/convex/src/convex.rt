@@ -13,16 +13,16 @@ ghost use Rattle.convex.specs.Convex.{convexRow, convexGap, orientation,
 ghost use Rattle.convex.specs.Convex.{convexPenetration, properCrossing, anyCrossing, convexDistance};
 use points::deeper_at;
 use points::result_of;
-use segments::closer_between;
-use segments::closest_point;
-use segments::seg_seg_point_on_first;
-use segments::BOUNDARY;
-use segments::INTERIOR;
 use profile::CollisionHit;
 use profile::Vertex;
 use profile::end_at;
 use profile::nearer_of;
 use profile::vertex_at;
+use segments::BOUNDARY;
+use segments::INTERIOR;
+use segments::closer_between;
+use segments::closest_point;
+use segments::seg_seg_point_on_first;
 
 // Edge j of the section may be nearer to the edge from a to b.
 fn nearer_edge(s: &[f64], j: usize, a: Vertex, b: Vertex, best: CollisionHit) -> CollisionHit

@@ -2,5 +2,5 @@
 pub mod Cover
 pub mod Demand
 pub mod Promise
-pub mod Refusals
 pub mod Given
+pub mod Lowest

@@ -1,20 +1,24 @@
--- What the cylinder query answers: numbers 1 to 5, 9 and 11 of 01's table, or the distance by the axis. Assumes nothing.
-use Prim.Native.Nat.{ℕ, zero, suc}
+-- What the cylinder query answers: a hit with its counts and mark, or the number under which it is turned down.
 use mathlib.Core.Bool.{Bool, true, false}
 use mathlib.Core.List.{List, [], _∷_, _++_}
 use lib.Ieee.{Float}
-use Rattle.arith.specs.F64.{_≺_, 𝟘}
+use Rattle.profile.specs.Refusals.{Test, _when_, refusal, pointNumbers, radiusTests, besideTests}
+use Rattle.profile.specs.Replies.{Reply, value, turned-down, reply}
 use Rattle.boxes.specs.Boxes.{boxDistance}
-use Rattle.profile.specs.Refusals.{refuse, queryRefusal, pointNumbers}
 use Rattle.bands.specs.Axis.{axis}
 use Rattle.bands.specs.Band.{axialBox, bandOf}
 use Rattle.walk.specs.Walk.{oneBox, bandDistance}
 use Rattle.bands.specs.declared.shapes.Cylinder.{Cylinder}
-use Rattle.walk.specs.declared.shapes.CylinderHit.{CylinderHit}
-use Rattle.cylinders.specs.declared.shapes.CylinderAnswer.{CylinderAnswer}
-use Rattle.cylinders.specs.declared.shapes.CylinderAnswer.the-variants.{Hit, Refused}
 use Rattle.bands.specs.declared.shapes.Axis.{Axis}
 use Rattle.bands.specs.declared.shapes.Axis.the-variants.{Axial, Radial, Neither}
+use Rattle.walk.specs.declared.shapes.CountedHit.{CountedHit}
+use Rattle.cylinders.specs.declared.shapes.CountedAnswer.{CountedAnswer}
+use Rattle.cylinders.specs.declared.shapes.CountedAnswer.the-variants.{Hit, Refused}
+
+-- what each case stands for
+abbrev pub told : CountedAnswer → Reply CountedHit
+told (Hit h) = value h
+told (Refused n) = turned-down n
 
 abbrev pub neither : Axis → Bool
 neither Axial = false
@@ -24,26 +28,21 @@ neither Neither = true
 abbrev pub cylinderNumbers : Cylinder → List Float
 cylinderNumbers c = pointNumbers (c .a) ++ (pointNumbers (c .b) ++ (c .radius ∷ []))
 
--- numbers 9 and 11 of a cylinder
-abbrev pub ownNumber : Float → Axis → ℕ
-ownNumber radius axis = refuse 9 (radius ≺ 𝟘) (refuse 11 (neither axis) 0)
+-- a cylinder's own, by its axis
+abbrev pub cylinderOwn : Float → Axis → List Test
+cylinderOwn radius axis = radiusTests radius ++ ((11 when neither axis) ∷ [])
 
-unfoldable pub cylinderRefusal : List Float → Cylinder → ℕ
-cylinderRefusal s c = queryRefusal (s ∷ []) (s ++ cylinderNumbers c) (ownNumber (c .radius) (axis c))
+abbrev pub cylinderTests : List Float → Cylinder → List Float → List Test
+cylinderTests s c extra = besideTests s (cylinderNumbers c) extra (cylinderOwn (c .radius) (axis c))
 
 -- by the axis; what is neither axial nor radial is turned down
-unfoldable pub cylinderDistance : List Float → Cylinder → CylinderHit
+unfoldable pub cylinderDistance : List Float → Cylinder → CountedHit
 cylinderDistance s c = by (axis c)
   where
-    by : Axis → CylinderHit
+    by : Axis → CountedHit
     by Axial = oneBox (boxDistance s (axialBox c))
     by Radial = bandDistance s (bandOf c)
     by Neither = oneBox (boxDistance s (axialBox c))
 
--- the number if there is one, and otherwise the hit with its counts and mark
-abbrev pub answer : ℕ → CylinderHit → CylinderAnswer
-answer zero h = Hit h
-answer (suc n) h = Refused (suc n)
-
-unfoldable pub cylinderAnswer : List Float → Cylinder → CylinderAnswer
-cylinderAnswer s c = answer (cylinderRefusal s c) (cylinderDistance s c)
+unfoldable pub cylinderAnswer : List Float → Cylinder → Reply CountedHit
+cylinderAnswer s c = reply (refusal (cylinderTests s c [])) (cylinderDistance s c)

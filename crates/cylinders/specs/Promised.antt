@@ -1,4 +1,4 @@
--- Demands 1 and 3 of a hit that the cylinder query gives. Assumes nothing.
+-- Demands 1 and 3 of a hit that the cylinder query gives.
 use Prim.Native.Nat.{_≤_}
 use mathlib.Core.Path.{_≡_}
 use mathlib.Core.List.{List}
@@ -12,23 +12,16 @@ use Rattle.walk.specs.Walk.{walkAll, walked}
 use Rattle.walk.specs.Cover.{Covers}
 use Rattle.bands.specs.declared.shapes.Cylinder.{Cylinder}
 use Rattle.bands.specs.declared.shapes.Axis.the-variants.{Radial}
-use Rattle.walk.specs.declared.shapes.CylinderHit.{CylinderHit}
-use Rattle.cylinders.specs.declared.shapes.CylinderAnswer.{CylinderAnswer}
-use Rattle.cylinders.specs.declared.shapes.CylinderAnswer.the-variants.{Hit, Refused}
+use Rattle.walk.specs.declared.shapes.CountedHit.{CountedHit}
 
 -- Demand 3 of a hit: across the spindle, radius above 1e-15, distance, counts and mark are those of 01's walk, and the walk covers
-pub record Across (s : List Float) (c : Cylinder) (h : CylinderHit) : Type 0 where
+pub record Across (s : List Float) (c : Cylinder) (h : CountedHit) : Type 0 where
   pub walk : h ≡ walked (walkAll s (bandOf c) e-9 8192 16)
   pub covers : Covers s (bandOf c) e-9 8192 16 (walkAll s (bandOf c) e-9 8192 16)
 
 -- Demands 1 and 3 of a hit: always finite, also beside a section on the axis only; counts within their limits
-pub record Promised (s : List Float) (c : Cylinder) (h : CylinderHit) : Type 0 where
+pub record Promised (s : List Float) (c : Cylinder) (h : CountedHit) : Type 0 where
   pub bounded : Bounded (h .hit)
   pub boxes : h .boxes ≤ 8192
   pub waiting : h .waiting ≤ 54
   pub across : axis c ≡ Radial → T (e-15 ≺ c .radius) → Across s c h
-
--- a hit has it; a refusal owes nothing
-abbrev pub OfHit : (CylinderHit → Type 0) → CylinderAnswer → Type 0
-OfHit P (Hit h) = P h
-OfHit P (Refused n) = Unit {0}

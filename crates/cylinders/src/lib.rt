@@ -4,8 +4,8 @@ mod refusal;
 mod shapes;
 
 pub use queries::query_cylinder;
-pub use shapes::CylinderAnswer;
+pub use shapes::CountedAnswer;
 
 // For the crates above, without checks of the input.
 pub use queries::cylinder_distance;
-pub use refusal::cleared_refusal;
+pub use refusal::cylinder_refusal;

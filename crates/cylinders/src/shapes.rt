@@ -1,7 +1,7 @@
-// The answer of the cylinder query.
-use walk::CylinderHit;
+// The answer of a query that counts: a hit with its counts and mark, or a number.
+use walk::CountedHit;
 
-pub enum CylinderAnswer {
-    Hit(CylinderHit),
+pub enum CountedAnswer {
+    Hit(CountedHit),
     Refused(u32),
 }

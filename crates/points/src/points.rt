@@ -8,14 +8,14 @@ ghost use Rattle.segments.specs.Segments.{closest};
 ghost use Rattle.points.specs.Points as points;
 ghost use Rattle.points.specs.Points.{surface, surfaceStep, surfaceNear, crossing, oddCrossings};
 ghost use Rattle.points.specs.Points.{insideAxisEdge, inSection, pointDistance, sphereDistance};
-use segments::point_segment;
-use segments::BOUNDARY;
 use arith::Vec3;
 use profile::CollisionHit;
 use profile::Sphere;
 use profile::Vertex;
 use profile::end_at;
 use profile::vertex_at;
+use segments::BOUNDARY;
+use segments::point_segment;
 
 // An edge with both ends on the axis is no surface.
 fn edge_is_surface(a: Vertex, b: Vertex) -> bool

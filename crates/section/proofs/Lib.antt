@@ -1,3 +1,3 @@
--- Demand 1 over the definitions, and what a query answers.
-pub mod Answered
+-- Demand 1 over the definitions, and that no distance is a NaN.
+pub mod Numbers
 pub mod Demand

@@ -1,11 +1,11 @@
--- Numbers as digits: one digit more in front of the last, how many there are, and the bits of a float. Assumes nothing.
+-- Numbers as digits: one digit more in front of the last, how many there are, and the bits of a float.
 use Prim.Native.Nat.{ℕ, zero, suc, _+_, _-_, _/_, _%_, _^_, _<_, _≤_}
 use native.Mathlib.Nat.{pow-suc}
 use native.Mathlib.Omega.{arith}
 use mathlib.Core.Bool.{Bool, true, false, cond}
 use mathlib.Core.List.{List, [], _∷_, _++_}
 use mathlib.Core.Logic.{⊎-elim}
-use mathlib.Core.Path.{_≡_, refl, sym, ap, _∙_}
+use mathlib.Core.Path.{_≡_, refl, ap}
 use lib.ListN.{length, length-append}
 use lib.Seq.{length-sets}
 use lib.Dec.{ltb}
@@ -15,7 +15,7 @@ use Rattle.arith.specs.F64.{𝟘}
 use Rattle.roots.proofs.Numbers.{decide}
 use Rattle.roots.proofs.Pattern.Special.{unlike-itself}
 use Rattle.store_listing.specs.Text.{digit, decimalUpTo, decimal, hex, bits}
-use Rattle.store_listing.specs.Promises.{Written}
+use Rattle.store_listing.specs.Steps.{Written}
 use Rattle.store_listing.proofs.Writing.{room-first, room-next, nothing-written}
 
 -- ---- hexadecimal

@@ -1,79 +1,49 @@
 -- Every listing fits: the largest has 508 bodies beside 3 vertices, these with the shortest indices, 27,848 bytes in
 -- all. A body's line has at most 52 bytes and its index; a vertex takes away at least the shortest such line.
--- Assumes nothing.
 use Prim.Native.Nat.{ℕ, zero, suc, _+_, _*_, _/_, _<_, _≤_}
 use native.Mathlib.Omega.{arith}
 use mathlib.Core.Bool.{Bool, true, false, _||_, cond}
 use mathlib.Core.List.{List, [], _∷_, _++_, flatMap}
 use mathlib.Core.Logic.{⊎-elim}
-use mathlib.Core.Path.{_≡_, refl, sym, ap, subst, _∙_}
+use mathlib.Core.Path.{_≡_, refl}
 use lib.ListN.{length, length-append}
 use lib.Dec.{eqb}
 use lib.Ieee.{Float}
 use borrow.Author.Tests.{eqb-true}
-use Rattle.arith.specs.F64.{_≺_, 𝟘}
 use Rattle.profile.specs.Vertices.{count}
-use Rattle.profile.specs.Refusals.{anyOf, odd, fewer, more, notFinite, overLimit, numbersRefusal, queryRefusal}
-use Rattle.profile.specs.Refusals.{sphereRefusal, boxRefusal}
-use Rattle.section.specs.Answers.{answer, sphereAnswer, boxAnswer}
-use Rattle.profile.specs.declared.shapes.Aabb.{Aabb}
-use Rattle.profile.specs.declared.shapes.Sphere.{Sphere}
+use Rattle.profile.specs.Refusals.{sphereTests, boxTests}
+use Rattle.profile.specs.Replies.{reply}
+use Rattle.profile.proofs.Refusals.Ordered.{refusal-most}
+use Rattle.section.specs.Answers.{sphereAnswer, boxAnswer}
 use Rattle.profile.specs.declared.shapes.CollisionHit.{CollisionHit}
 use Rattle.roots.proofs.Numbers.{decide}
 use Rattle.store.specs.Records.{kind, number}
-use Rattle.store.specs.Kinds.{isVertex, isSphere, isBox, rightKind, kindsAnswer}
+use Rattle.store.specs.Kinds.{isSphere, rightKind, kindsAnswer}
 use Rattle.store.specs.Store.{vertexNumbers, vertices, storeAnswer, chained}
-use Rattle.store_listing.specs.Text.{text, decimalUpTo, decimal, digit}
+use Rattle.store_listing.specs.Text.{text, decimalUpTo, decimal}
 use Rattle.store_listing.specs.Listing.{sphereAt, boxAt, bodyAnswer, answerText, bodyLine, recordLine}
 use Rattle.store_listing.specs.Listing.{sectionLine, acceptedText}
 use Rattle.store.specs.declared.answers.StoreAnswer.{StoreAnswer}
 use Rattle.store.specs.declared.answers.StoreAnswer.the-variants.{Accepted, Refused}
 use Rattle.store_listing.proofs.Digits.{few-digits, length-one, some-digit}
 use Rattle.store_listing.proofs.Pieces.{length-hit}
-use Rattle.store.proofs.Reading.{Sound, accepted-sound, section-accepted}
+use Rattle.store.proofs.Reading.{accepted-sound, section-accepted}
 use Rattle.store.proofs.Sums.{sumOver, sumBelow, chain-sum}
 
 -- ---- a body's line: its number is at most 10, its answer at most 51 bytes
-small-number :
-    (a b c d e : Bool) (own : ℕ) → own ≤ 10 → cond a 1 (cond b 2 (cond c 3 (cond d 4 (cond e 5 own)))) ≤ 10
-small-number true b c d e own h = omega arith
-small-number false true c d e own h = omega arith
-small-number false false true d e own h = omega arith
-small-number false false false true e own h = omega arith
-small-number false false false false true own h = omega arith
-small-number false false false false false own h = h
-
-query-small : (lists : List (List Float)) (given : List Float) (own : ℕ) → own ≤ 10 → queryRefusal lists given own ≤ 10
-unfolding queryRefusal numbersRefusal
-query-small lists given own h =
-    small-number (anyOf odd lists) (anyOf (fewer 3) lists) (anyOf (more 256) lists) (anyOf notFinite given)
-    (anyOf overLimit given) own h
-
-own-small : (n : ℕ) (applies : Bool) → n ≤ 10 → cond applies n 0 ≤ 10
-own-small n true h = h
-own-small n false h = omega arith
-
-answer-size : (n : ℕ) (h : CollisionHit) → n ≤ 10 → length (answerText (answer n h)) ≤ 51
+answer-size : (n : ℕ) (h : CollisionHit) → n ≤ 10 → length (answerText (reply n h)) ≤ 51
 unfolding text
 answer-size zero h small = omega (arith, length-hit h)
 answer-size (suc n) h small =
     omega (arith, few-digits 1 (suc n) (omega arith), length-append (text " refused ") (decimal (suc n)))
-
-sphere-small : (s : List Float) (x : Sphere) → sphereRefusal s x ≤ 10
-unfolding sphereRefusal
-sphere-small s x = query-small _ _ _ (own-small 9 (x .radius ≺ 𝟘) (omega arith))
-
-box-small : (s : List Float) (x : Aabb) → boxRefusal s x ≤ 10
-unfolding boxRefusal
-box-small s x = query-small _ _ _ (own-small 10 ((x .z1 ≺ x .z0) || (x .r1 ≺ x .r0)) (omega arith))
 
 body-answer-size : (b : List ℕ) (s : List Float) (k : ℕ) → length (answerText (bodyAnswer b s k)) ≤ 51
 unfolding bodyAnswer sphereAnswer boxAnswer
 body-answer-size b s k = go (isSphere b k)
   where
     go : (sphere : Bool) → length (answerText (cond sphere (sphereAnswer s (sphereAt b k)) (boxAnswer s (boxAt b k)))) ≤ 51
-    go true = answer-size _ _ (sphere-small s (sphereAt b k))
-    go false = answer-size _ _ (box-small s (boxAt b k))
+    go true = answer-size _ _ (refusal-most 10 (sphereTests s (sphereAt b k) []) tt)
+    go false = answer-size _ _ (refusal-most 10 (boxTests s (boxAt b k) []) tt)
 
 line-size : (b : List ℕ) (s : List Float) (k : ℕ) → length (bodyLine b s k) ≤ 52 + length (decimal k)
 unfolding bodyLine text
@@ -163,9 +133,9 @@ every-listing-fits b good =
       arith,
       length-append (sectionLine s) (flatMap (recordLine b s) (chained b)),
       section-size s,
-      count-digits (count s) (size .0) (size .1),
+      count-digits (count s) (size .enough) (size .few),
       records-cost b s (chained b) (sound .kinds),
       chain-sum weight b (chained b) 512 (sound .links) (sound .some) (sound .most),
       all-bodies,
-      size .0,
+      size .enough,
     )

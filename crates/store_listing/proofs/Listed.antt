@@ -1,14 +1,14 @@
--- What list_store answers, and what the text then holds. Assumes nothing.
+-- What list_store answers, and what the text then holds.
 use Prim.Native.Nat.{ℕ, _<_, _≤_, _^_}
 use native.Mathlib.Omega.{arith}
-use mathlib.Core.List.{List, _++_}
-use mathlib.Core.Path.{_≡_, refl, sym, ap, _∙_}
+use mathlib.Core.List.{List}
+use mathlib.Core.Path.{_≡_, sym, ap}
 use lib.ListN.{length, drop, length-append}
 use lib.Ieee.{Float}
 use Rattle.store.specs.Store.{vertices, storeAnswer, chained}
-use Rattle.store_listing.specs.Text.{text, decimal}
-use Rattle.store_listing.specs.Listing.{refusalLine, acceptedText, listing, listAnswer, textAfter}
-use Rattle.store_listing.specs.Promises.{Written}
+use Rattle.store_listing.specs.Text.{text}
+use Rattle.store_listing.specs.Listing.{refusalLine, acceptedText, listing, listAnswer, textAfter, StoreListed, Prints}
+use Rattle.store_listing.specs.Steps.{Written}
 use Rattle.store.specs.declared.answers.StoreAnswer.{StoreAnswer}
 use Rattle.store.specs.declared.answers.StoreAnswer.the-variants.{Accepted, Refused}
 use Rattle.store_listing.specs.declared.answers.ListAnswer.the-variants.{Bytes, Refused as NotListed}
@@ -25,8 +25,8 @@ never e = let z : _≡_ {A = ℕ} 0 1 = cc in omega arith
 -- a refused store leaves the text as it was
 pub not-listed :
     (b given : List ℕ) {n k : ℕ} → storeAnswer b ≡ Refused n k
-    → (NotListed n k ≡ listAnswer (storeAnswer b) (listing b)) × (given ≡ textAfter (storeAnswer b) (listing b) given)
-not-listed b given e = rw e (refl, refl)
+    → StoreListed b given (NotListed n k) given
+not-listed b given e = record { answer = rw e; buffer = rw e }
 
 module _
     (b : List ℕ) {ks : List ℕ} {s : List Float} (good : storeAnswer b ≡ Accepted) (order : ks ≡ chained b)
@@ -41,20 +41,23 @@ module _
 
     pub listed :
         (given : List ℕ) {after : List ℕ} {r : ℕ} → length given ≡ 27848 → Written given 0 (acceptedText b s ks) after r
-        → (Bytes r ≡ listAnswer (storeAnswer b) (listing b)) × (after ≡ textAfter (storeAnswer b) (listing b) given)
+        → StoreListed b given (Bytes r) after
     listed given size written =
-        let front = front-written written (listing-room given size) in
-        rw (same-text, good) (ap Bytes (front .0), front .1)
+        let printed = front-written written (listing-room given size) in
+        record {
+          answer = rw (same-text, good) (ap Bytes (printed .count));
+          buffer = rw (same-text, good) (printed .front);
+        }
 
 -- the count of bytes lies within the text
-pub front-within : (l rest : List ℕ) {after : List ℕ} {n : ℕ} → n ≡ length l → after ≡ l ++ rest → n ≤ length after
-front-within l rest count e = rw (e, count) (omega (arith, length-append l rest))
+pub front-within : {l given after : List ℕ} {n : ℕ} → Prints l given after n → n ≤ length after
+front-within {l} {given} p = rw (p .front, p .count) (omega (arith, length-append l (drop (length l) given)))
 
 -- what is printed: the listing, as list_store put it,
 pub listed-front :
     (a : StoreAnswer) (l given : List ℕ) {after : List ℕ} {n : ℕ} → Bytes n ≡ listAnswer a l → after ≡ textAfter a l given
-    → (n ≡ length l) × (after ≡ l ++ drop (length l) given)
-listed-front Accepted l given count e = (same-count count, e)
+    → Prints l given after n
+listed-front Accepted l given count e = record { count = same-count count; front = e }
 listed-front (Refused k m) l given count e = absurd (never count)
 
 turned :
@@ -72,7 +75,7 @@ pub refused-front :
     (b given : List ℕ) {mid after : List ℕ} {n k r : ℕ} → NotListed n k ≡ listAnswer (storeAnswer b) (listing b)
     → mid ≡ textAfter (storeAnswer b) (listing b) given → length (refusalLine n k) ≤ length mid
     → Written mid 0 (refusalLine n k) after r
-    → (r ≡ length (listing b)) × (after ≡ listing b ++ drop (length (listing b)) given)
+    → Prints (listing b) given after r
 refused-front b given {mid} {after} {n} {k} same kept room written =
     let told = turned (storeAnswer b) (listing b) given same kept in
     rw (line-printed b (told .0), ← told .1) (front-written written room)
@@ -81,12 +84,4 @@ refused-front b given {mid} {after} {n} {k} same kept room written =
 pub refusal-short : (n k : ℕ) → n < 2 ^ 32 → k < 2 ^ 32 → length (refusalLine n k) ≤ 33
 unfolding refusalLine text
 refusal-short n k hn hk =
-    omega (
-      arith,
-      few-digits 9 n (omega arith),
-      few-digits 9 k (omega arith),
-      length-append (text "refused ") (decimal n),
-      length-append (text "refused " ++ decimal n) (text " at "),
-      length-append (text "refused " ++ decimal n ++ text " at ") (decimal k),
-      length-append (text "refused " ++ decimal n ++ text " at " ++ decimal k) (text "\n"),
-    )
+    simp length-append (omega (arith, few-digits 9 n (omega arith), few-digits 9 k (omega arith)))

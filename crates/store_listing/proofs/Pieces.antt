@@ -1,44 +1,37 @@
--- The pieces of a line and the room that they take. Assumes nothing.
+-- The pieces of a line and the room that they take.
 use Prim.Native.Nat.{ℕ, _+_, _<_, _≤_}
-use native.Mathlib.Nat.{zero-add}
 use native.Mathlib.Omega.{arith}
-use mathlib.Core.List.{List, [], _∷_, _++_, append-assoc, flatMap}
-use mathlib.Core.Path.{_≡_, refl, sym, ap, subst, _∙_}
+use mathlib.Core.List.{List, _++_, flatMap}
+use mathlib.Core.Path.{_≡_, sym, ap, _∙_}
 use lib.ListN.{length, take, drop, getD, length-append, take-append-drop}
 use lib.Ieee.{Float}
 use Rattle.profile.specs.declared.shapes.CollisionHit.{CollisionHit}
+use Rattle.section.specs.Answers.{told}
 use Rattle.section.specs.declared.shapes.Answer.{Answer}
 use Rattle.section.specs.declared.shapes.Answer.the-variants.{Hit, Refused}
-use Rattle.store_listing.specs.Text.{text, decimal, bits}
-use Rattle.store_listing.specs.Listing.{bodyAnswer, hitText, answerText, bodyLine}
-use Rattle.store_listing.specs.Promises.{Written}
+use Rattle.store_listing.specs.Text.{text, decimal}
+use Rattle.store_listing.specs.Listing.{bodyAnswer, fieldText, hitText, answerText, bodyLine}
+use Rattle.store_listing.specs.Steps.{Written}
 use Rattle.store_listing.proofs.Digits.{length-bits}
 use Rattle.store.proofs.Lists.{flatMap-append, flatMap-more}
 use Rattle.store_listing.proofs.Writing.{then, room-first, room-next}
 
--- from the front on
-pub at-front : {n most : ℕ} → n ≤ most → 0 + n ≤ most
-at-front h = rw zero-add h
-
-pub first-of : (t u : List ℕ) {most : ℕ} → length (t ++ u) ≤ most → length t ≤ most
-first-of t u h = omega (arith, length-append t u)
-
 -- ---- an answer
-pub length-hit : (h : CollisionHit) → length (hitText h) ≡ 51
-unfolding hitText text
-length-hit h =
-    omega (
-      arith,
-      length-bits (h .distance),
-      length-bits (h .witness .z),
-      length-bits (h .witness .r),
-      length-append (32 ∷ bits (h .distance) ++ (32 ∷ []) ++ bits (h .witness .z) ++ (32 ∷ [])) (bits (h .witness .r)),
-      length-append (32 ∷ bits (h .distance) ++ (32 ∷ []) ++ bits (h .witness .z)) (32 ∷ []),
-      length-append (32 ∷ bits (h .distance) ++ (32 ∷ [])) (bits (h .witness .z)),
-      length-append (32 ∷ bits (h .distance)) (32 ∷ []),
-    )
+pub length-field : (x : Float) → length (fieldText x) ≡ 17
+unfolding fieldText text
+length-field x = omega (arith, length-bits x)
 
-module _ (at : ℕ) {a : Answer} {most : ℕ} (room : at + length (answerText a) ≤ most) where
+pub length-hit : (h : CollisionHit) → length (hitText h) ≡ 51
+unfolding hitText
+length-hit h =
+    simp length-append (omega (
+      arith,
+      length-field (h .distance),
+      length-field (h .witness .z),
+      length-field (h .witness .r),
+    ))
+
+module _ (at : ℕ) (a : Answer) {most : ℕ} (room : at + length (answerText (told a)) ≤ most) where
   pub hit-room : {h : CollisionHit} → a ≡ Hit h → at + 51 ≤ most
   hit-room {h} e = omega (arith, length-hit h, rw e at room)
 
@@ -47,10 +40,10 @@ module _ (at : ℕ) {a : Answer} {most : ℕ} (room : at + length (answerText a)
 
 -- ---- the line of a body, by the answer of its query
 pub line-of :
-    (b : List ℕ) (s : List Float) (k : ℕ) {a : Answer} → a ≡ bodyAnswer b s k
-    → bodyLine b s k ≡ decimal k ++ answerText a ++ text "\n"
+    (b : List ℕ) (s : List Float) (k : ℕ) (a : Answer) → told a ≡ bodyAnswer b s k
+    → bodyLine b s k ≡ decimal k ++ answerText (told a) ++ text "\n"
 unfolding bodyLine
-line-of b s k e = rw (← e)
+line-of b s k a e = rw (← e)
 
 -- ---- line behind line
 module _ (f : ℕ → List ℕ) (ks : List ℕ) (i : ℕ) (more : i < length ks) where

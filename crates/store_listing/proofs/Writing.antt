@@ -1,13 +1,13 @@
--- Text written into a buffer piece by piece: one run of stores behind another is one run. Assumes nothing.
-use Prim.Native.Nat.{ℕ, zero, suc, _+_, _-_, _/_, _%_, _<_, _≤_}
+-- Text written into a buffer piece by piece: one run of stores behind another is one run.
+use Prim.Native.Nat.{ℕ, suc, _+_, _<_, _≤_}
 use native.Mathlib.Nat.{add-zero, zero-add, add-suc, suc-add}
 use native.Mathlib.Omega.{arith}
-use mathlib.Core.Bool.{Bool, true, false, cond}
 use mathlib.Core.List.{List, [], _∷_, _++_}
-use mathlib.Core.Path.{_≡_, refl, sym, ap, subst, _∙_}
+use mathlib.Core.Path.{_≡_, refl, sym, ap, _∙_}
 use lib.ListN.{length, take, drop, getD, set, length-append}
 use lib.Seq.{sets, sets-eq, length-sets, take-all}
-use Rattle.store_listing.specs.Promises.{Written}
+use Rattle.store_listing.specs.Listing.{Prints}
+use Rattle.store_listing.specs.Steps.{Written}
 use Rattle.store.proofs.Lists.{take-more}
 
 sets-append : (l : List ℕ) (i : ℕ) (t u : List ℕ) → sets l i (t ++ u) ≡ sets (sets l i t) (i + length t) u
@@ -56,5 +56,6 @@ front-of l t h = sets-eq t l 0 (rw zero-add h) ∙ rw zero-add
 
 pub front-written :
     {before l after : List ℕ} {r : ℕ} → Written before 0 l after r → length l ≤ length before
-    → (r ≡ length l) × (after ≡ l ++ drop (length l) before)
-front-written {before} {l} w h = (w .end ∙ zero-add (length l), w .text ∙ front-of before l h)
+    → Prints l before after r
+front-written {before} {l} w h =
+    record { count = w .end ∙ zero-add (length l); front = w .text ∙ front-of before l h }

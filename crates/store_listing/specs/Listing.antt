@@ -1,18 +1,18 @@
 -- The listing: `section N`, then a line for each body; of a refused store only `refused N at K`. Each line ends in a
--- newline. Assumes nothing.
+-- newline.
 use Prim.Native.Nat.{ℕ}
 use mathlib.Core.Bool.{_||_, cond}
 use mathlib.Core.List.{List, [], _++_, flatMap}
+use mathlib.Core.Path.{_≡_}
 use lib.ListN.{length, take, drop}
 use lib.Dec.{leb}
 use lib.Ieee.{Float}
 use Rattle.profile.specs.Vertices.{count}
+use Rattle.profile.specs.Replies.{Reply, value, turned-down}
 use Rattle.section.specs.Answers.{sphereAnswer, boxAnswer}
 use Rattle.profile.specs.declared.shapes.Aabb.{Aabb}
 use Rattle.profile.specs.declared.shapes.Sphere.{Sphere}
 use Rattle.profile.specs.declared.shapes.CollisionHit.{CollisionHit}
-use Rattle.section.specs.declared.shapes.Answer.{Answer}
-use Rattle.section.specs.declared.shapes.Answer.the-variants.{Hit, Refused}
 use Rattle.store.specs.Records.{number}
 use Rattle.store.specs.Kinds.{isSphere, isBox}
 use Rattle.store.specs.Store.{vertices, storeAnswer, chained}
@@ -35,16 +35,19 @@ abbrev pub boxAt : List ℕ → ℕ → Aabb
 boxAt b k = record { z0 = number b k 0; z1 = number b k 1; r0 = number b k 2; r1 = number b k 3 }
 
 -- a body's answer is that of its query; the section being accepted, a refusal is the body's own
-unfoldable pub bodyAnswer : List ℕ → List Float → ℕ → Answer
+unfoldable pub bodyAnswer : List ℕ → List Float → ℕ → Reply CollisionHit
 bodyAnswer b s k = cond (isSphere b k) (sphereAnswer s (sphereAt b k)) (boxAnswer s (boxAt b k))
+
+unfoldable pub fieldText : Float → List ℕ
+fieldText x = text " " ++ bits x
 
 -- distance, witness z, witness radius
 unfoldable pub hitText : CollisionHit → List ℕ
-hitText h = text " " ++ bits (h .distance) ++ text " " ++ bits (h .witness .z) ++ text " " ++ bits (h .witness .r)
+hitText h = fieldText (h .distance) ++ fieldText (h .witness .z) ++ fieldText (h .witness .r)
 
-abbrev pub answerText : Answer → List ℕ
-answerText (Hit h) = hitText h
-answerText (Refused n) = text " refused " ++ decimal n
+abbrev pub answerText : Reply CollisionHit → List ℕ
+answerText (value h) = hitText h
+answerText (turned-down n) = text " refused " ++ decimal n
 
 -- the line of a body begins with its record index; other records have none
 unfoldable pub bodyLine : List ℕ → List Float → ℕ → List ℕ
@@ -86,3 +89,12 @@ listAnswer (Turned n k) l = NotListed n k
 abbrev pub textAfter : StoreAnswer → List ℕ → List ℕ → List ℕ
 textAfter Accepted l given = l ++ drop (length l) given
 textAfter (Turned n k) l given = given
+
+pub record StoreListed (b given : List ℕ) (r : ListAnswer) (after : List ℕ) : Type 0 where
+  pub answer : r ≡ listAnswer (storeAnswer b) (listing b)
+  pub buffer : after ≡ textAfter (storeAnswer b) (listing b) given
+
+-- r counts the bytes of l; they stand at the front, and the rest is as it was given
+pub record Prints (l given after : List ℕ) (r : ℕ) : Type 0 where
+  pub count : r ≡ length l
+  pub front : after ≡ l ++ drop (length l) given

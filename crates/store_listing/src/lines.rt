@@ -2,15 +2,26 @@
 ghost use mathlib.Core.List.{flatMap};
 ghost use Prim.Native.Nat.{_+_, _≤_};
 ghost use lib.ListN.{length};
-ghost use Rattle.store_listing.specs.Listing.{answerText, hitText, bodyLine, recordLine, sectionLine, refusalLine};
-ghost use Rattle.store_listing.specs.Promises.{Written};
+ghost use Rattle.section.specs.Answers.{told};
+ghost use Rattle.store_listing.specs.Listing.{answerText, fieldText, hitText, bodyLine, recordLine};
+ghost use Rattle.store_listing.specs.Listing.{sectionLine, refusalLine};
+ghost use Rattle.store_listing.specs.Steps.{Written};
 use super::bodies::body_answer;
-use store::kind_of;
 use super::text::put_bits;
 use super::text::put_decimal;
 use super::text::put_word;
-use section::Answer;
 use profile::CollisionHit;
+use section::Answer;
+use store::kind_of;
+
+// A space, and the bits of x.
+fn put_field(text: &mut [u8], at: usize, x: f64) -> usize
+    requires { ⌜ at + 17 ≤ length (now text) ⌝ }
+    ensures { λ r. ⌜ Written (now (text .entry)) at (fieldText x) (now (text .exit)) r ⌝ }
+{
+    let a = put_word(text, at, b" ");
+    put_bits(text, a, x)
+}
 
 // Distance, witness z, witness radius.
 fn put_hit(text: &mut [u8], at: usize, hit: CollisionHit) -> usize
@@ -18,17 +29,14 @@ fn put_hit(text: &mut [u8], at: usize, hit: CollisionHit) -> usize
     ensures { λ r. ⌜ Written (now (text .entry)) at (hitText hit) (now (text .exit)) r ⌝ }
 {
     let witness = hit.witness;
-    let a = put_word(text, at, b" ");
-    let b = put_bits(text, a, hit.distance);
-    let c = put_word(text, b, b" ");
-    let d = put_bits(text, c, witness.z);
-    let e = put_word(text, d, b" ");
-    put_bits(text, e, witness.r)
+    let a = put_field(text, at, hit.distance);
+    let b = put_field(text, a, witness.z);
+    put_field(text, b, witness.r)
 }
 
 fn put_answer(text: &mut [u8], at: usize, answer: Answer) -> usize
-    requires { ⌜ at + length (answerText answer) ≤ length (now text) ⌝ }
-    ensures { λ r. ⌜ Written (now (text .entry)) at (answerText answer) (now (text .exit)) r ⌝ }
+    requires { ⌜ at + length (answerText (told answer)) ≤ length (now text) ⌝ }
+    ensures { λ r. ⌜ Written (now (text .entry)) at (answerText (told answer)) (now (text .exit)) r ⌝ }
 {
     match answer {
         Answer::Hit(hit) => put_hit(text, at, hit),

@@ -1,17 +1,14 @@
 // The listing of a store, and the line of a refusal.
-ghost use mathlib.Core.Path.{_≡_};
-ghost use mathlib.Core.List.{_++_};
 ghost use Prim.Native.Nat.{_≤_};
-ghost use lib.ListN.{length, drop};
-ghost use Rattle.store.specs.Store.{storeAnswer};
+ghost use lib.ListN.{length};
 ghost use Rattle.store_listing.specs.Listing as listing·specs;
-ghost use Rattle.store_listing.specs.Listing.{acceptedText, refusalLine, inputListing, listAnswer, textAfter};
-ghost use Rattle.store_listing.specs.Promises.{Written};
-use store::Filled;
+ghost use Rattle.store_listing.specs.Listing.{acceptedText, refusalLine, inputListing, StoreListed, Prints};
+ghost use Rattle.store_listing.specs.Steps.{Written};
 use super::answers::ListAnswer;
 use super::lines::put_lines;
 use super::lines::put_refusal_line;
 use super::lines::put_section_line;
+use store::Filled;
 use store::read_chain;
 use store::read_section;
 
@@ -27,9 +24,7 @@ fn put_accepted(store: &[u8], s: &[f64], order: &[u32], text: &mut [u8]) -> usiz
 // How many bytes the listing has, at the front of the text, or the refusal, with the text as it
 // was. No listing is longer than the text: 508 bodies beside 3 vertices, with the longest indices.
 pub fn list_store(store: &[u8], text: &mut [u8; 27848]) -> ListAnswer
-    ensures { λ r. ⌜ (let b = now (store .entry) in
-        (r ≡ listAnswer (storeAnswer b) (listing·specs.listing b))
-        × (now (text .exit) ≡ textAfter (storeAnswer b) (listing·specs.listing b) (now (text .entry)))) ⌝ }
+    ensures { λ r. ⌜ StoreListed (now (store .entry)) (now (text .entry)) r (now (text .exit)) ⌝ }
 {
     let mut order = [0u32; 512];
     let mut space = [0.0; 512];
@@ -51,16 +46,14 @@ pub fn list_store(store: &[u8], text: &mut [u8; 27848]) -> ListAnswer
 
 // Puts the line of a refusal at the front of the text, and says how many bytes it has.
 pub fn refusal_line(number: u32, k: u32, text: &mut [u8; 33]) -> usize
-    ensures { λ r. ⌜ (let l = refusalLine number k in
-        (r ≡ length l) × (now (text .exit) ≡ l ++ drop (length l) (now (text .entry)))) ⌝ }
+    ensures { λ r. ⌜ Prints (refusalLine number k) (now (text .entry)) (now (text .exit)) r ⌝ }
 {
     put_refusal_line(number, k, text)
 }
 
 // Puts what the listing program prints of a store: its listing, or the line of its refusal.
 fn put_listing(store: &[u8], text: &mut [u8; 27848]) -> usize
-    ensures { λ r. ⌜ (let l = listing·specs.listing (now (store .entry)) in
-        (r ≡ length l) × (now (text .exit) ≡ l ++ drop (length l) (now (text .entry)))) ⌝ }
+    ensures { λ r. ⌜ Prints (listing·specs.listing (now (store .entry))) (now (text .entry)) (now (text .exit)) r ⌝ }
 {
     let answer = list_store(store, text);
     match answer {
@@ -72,8 +65,7 @@ fn put_listing(store: &[u8], text: &mut [u8; 27848]) -> usize
 // The same of an input of n bytes that went into the buffer as far as it reaches. From 20,480 bytes
 // on a buffer holds every store, so that what is longer is none.
 pub fn list_input(buffer: &[u8], n: usize, text: &mut [u8; 27848]) -> usize
-    ensures { λ r. ⌜ (let l = inputListing n (now (buffer .entry)) in
-        (r ≡ length l) × (now (text .exit) ≡ l ++ drop (length l) (now (text .entry)))) ⌝ }
+    ensures { λ r. ⌜ Prints (inputListing n (now (buffer .entry))) (now (text .entry)) (now (text .exit)) r ⌝ }
 {
     if n <= buffer.len() {
         return put_listing(&buffer[..n], text);

@@ -8,7 +8,7 @@ ghost use lib.ListN.{length};
 ghost use lib.Ieee.{binary64, eq, toBits};
 ghost use Rattle.arith.specs.F64.{𝟘};
 ghost use Rattle.store_listing.specs.Text as text·specs;
-ghost use Rattle.store_listing.specs.Promises.{Written};
+ghost use Rattle.store_listing.specs.Steps.{Written};
 
 fn put_byte(text: &mut [u8], at: usize, x: u8) -> usize
     requires { ⌜ at < length (now text) ⌝ }

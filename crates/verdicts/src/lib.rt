@@ -3,6 +3,7 @@ mod shapes;
 mod verdicts;
 
 pub use shapes::Verdict;
+pub use verdicts::verdict_body;
 pub use verdicts::verdict_box;
 pub use verdicts::verdict_convex;
 pub use verdicts::verdict_cylinder;

@@ -1,27 +1,28 @@
 // The verdicts: collision exactly when distance + 1e-9 < clearance.
 ghost use mathlib.Core.Path.{_≡_};
-ghost use Rattle.verdicts.specs.Verdicts as verdicts;
-ghost use Rattle.verdicts.specs.Verdicts.{sphereVerdict, boxVerdict, cylinderVerdict, convexVerdict};
-use bands::axis_of;
-use cylinders::cylinder_distance;
-use cylinders::cleared_refusal;
-use bands::Cylinder;
+ghost use Rattle.profile.specs.Replies.{value};
+ghost use Rattle.bodies.specs.declared.shapes.Body.the-variants as body·kinds;
+ghost use Rattle.verdicts.specs.Verdicts.{told, collides, bodyVerdict, convexVerdict};
 use super::shapes::Verdict;
+use bands::Cylinder;
+use bands::axis_of;
+use bodies::Body;
+use boxes::box_distance;
+use convex::convex_distance;
+use cylinders::cylinder_distance;
+use cylinders::cylinder_refusal;
+use points::sphere_distance;
 use profile::Aabb;
 use profile::Sphere;
-use boxes::box_distance;
-use profile::box_number;
-use convex::convex_distance;
-use profile::pair_refusal;
-use profile::query_refusal;
-use profile::radius_number;
-use points::sphere_distance;
+use profile::box_refusal;
+use profile::convex_refusal;
+use profile::sphere_refusal;
 
 // A distance this much below the clearance is still a touch.
 const TOUCH_SLACK: f64 = 1e-9;
 
 fn judged(distance: f64, clearance: f64) -> Verdict
-    ensures { λ r. ⌜ r ≡ verdicts.judged (verdicts.collides distance clearance) ⌝ }
+    ensures { λ r. ⌜ told r ≡ value (collides distance clearance) ⌝ }
 {
     if distance + TOUCH_SLACK < clearance {
         return Verdict::Collision;
@@ -30,11 +31,10 @@ fn judged(distance: f64, clearance: f64) -> Verdict
 }
 
 pub fn verdict_sphere(section: &[f64], sphere: Sphere, clearance: f64) -> Verdict
-    ensures { λ r. ⌜ r ≡ sphereVerdict (now (section .entry)) sphere clearance ⌝ }
+    ensures { λ r. ⌜ told r ≡ bodyVerdict (now (section .entry)) (body·kinds.Sphere sphere) clearance ⌝ }
 {
-    let c = sphere.center;
-    let body = [c.x, c.y, c.z, sphere.radius, clearance];
-    let number = query_refusal(section, &body[..], radius_number(sphere.radius));
+    let extra = [clearance];
+    let number = sphere_refusal(section, sphere, &extra[..]);
     if number != 0 {
         return Verdict::Refused(number);
     }
@@ -42,10 +42,10 @@ pub fn verdict_sphere(section: &[f64], sphere: Sphere, clearance: f64) -> Verdic
 }
 
 pub fn verdict_box(section: &[f64], x: Aabb, clearance: f64) -> Verdict
-    ensures { λ r. ⌜ r ≡ boxVerdict (now (section .entry)) x clearance ⌝ }
+    ensures { λ r. ⌜ told r ≡ bodyVerdict (now (section .entry)) (body·kinds.Box x) clearance ⌝ }
 {
-    let body = [x.z0, x.z1, x.r0, x.r1, clearance];
-    let number = query_refusal(section, &body[..], box_number(x));
+    let extra = [clearance];
+    let number = box_refusal(section, x, &extra[..]);
     if number != 0 {
         return Verdict::Refused(number);
     }
@@ -53,10 +53,11 @@ pub fn verdict_box(section: &[f64], x: Aabb, clearance: f64) -> Verdict
 }
 
 pub fn verdict_cylinder(section: &[f64], cylinder: Cylinder, clearance: f64) -> Verdict
-    ensures { λ r. ⌜ r ≡ cylinderVerdict (now (section .entry)) cylinder clearance ⌝ }
+    ensures { λ r. ⌜ told r ≡ bodyVerdict (now (section .entry)) (body·kinds.Cylinder cylinder) clearance ⌝ }
 {
     let axis = axis_of(cylinder);
-    let number = cleared_refusal(section, cylinder, clearance, axis);
+    let extra = [clearance];
+    let number = cylinder_refusal(section, cylinder, axis, &extra[..]);
     if number != 0 {
         return Verdict::Refused(number);
     }
@@ -66,11 +67,22 @@ pub fn verdict_cylinder(section: &[f64], cylinder: Cylinder, clearance: f64) -> 
     )
 }
 
-pub fn verdict_convex(section: &[f64], convex: &[f64], clearance: f64) -> Verdict
-    ensures { λ r. ⌜ r ≡ convexVerdict (now (convex .entry)) (now (section .entry)) clearance ⌝ }
+// The verdict on a body, whatever its kind.
+pub fn verdict_body(section: &[f64], body: Body, clearance: f64) -> Verdict
+    ensures { λ r. ⌜ told r ≡ bodyVerdict (now (section .entry)) body clearance ⌝ }
 {
-    let body = [clearance];
-    let number = pair_refusal(convex, section, &body[..]);
+    match body {
+        Body::Sphere(sphere) => verdict_sphere(section, sphere, clearance),
+        Body::Box(x) => verdict_box(section, x, clearance),
+        Body::Cylinder(cylinder) => verdict_cylinder(section, cylinder, clearance),
+    }
+}
+
+pub fn verdict_convex(section: &[f64], convex: &[f64], clearance: f64) -> Verdict
+    ensures { λ r. ⌜ told r ≡ convexVerdict (now (convex .entry)) (now (section .entry)) clearance ⌝ }
+{
+    let extra = [clearance];
+    let number = convex_refusal(convex, section, &extra[..]);
     if number != 0 {
         return Verdict::Refused(number);
     }

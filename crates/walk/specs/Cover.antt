@@ -51,4 +51,3 @@ pub record Covers (s : List Float) (b : RadialBand) (tol : Float) (cap n : ℕ) 
   pub uncut : w .cut ≡ false → (z : Float) → T (fits binary64 z) → T (wholeWidth b .z0 ≼ z) → T (z ≼ wholeWidth b .z1)
       → Covered s b tol w z
   pub cut : w .cut ≡ true → Least s b tol w
-

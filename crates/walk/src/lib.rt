@@ -5,6 +5,6 @@ mod shapes;
 mod waiting;
 mod walk;
 
-pub use shapes::CylinderHit;
+pub use shapes::CountedHit;
 pub use walk::band_distance;
 pub use walk::one_box;

@@ -7,10 +7,10 @@ ghost use Rattle.walk.specs.Pieces.{spansOf, boxFrom, variationFrom};
 ghost use Rattle.walk.specs.Steps.{measuredOf};
 use super::shapes::Measured;
 use super::shapes::Piece;
-use bands::RadialBand;
 use super::shapes::Spans;
-use profile::Aabb;
+use bands::RadialBand;
 use boxes::box_distance;
+use profile::Aabb;
 
 pub fn whole_width(b: RadialBand) -> Piece
     ensures { λ r. ⌜ r ≡ pieces.wholeWidth b ⌝ }

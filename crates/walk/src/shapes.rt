@@ -22,7 +22,7 @@ pub struct Measured {
 
 // A hit with how many boxes were measured, the most pieces that waited at any one time, and
 // whether the walk was cut.
-pub struct CylinderHit {
+pub struct CountedHit {
     pub hit: CollisionHit,
     pub boxes: usize,
     pub waiting: usize,

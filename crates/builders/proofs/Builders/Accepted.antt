@@ -1,145 +1,103 @@
 -- The numbers of the builders in turn, those of the list first, then their own; and what number 0 says of the points and
--- the space. By cases of the tests.
-use Prim.Native.Nat.{ℕ, suc, _+_, _*_, _≤_, _<_}
+-- the space. By the laws of tests in order.
+use Prim.Native.Nat.{ℕ, _+_, _*_, _≤_, _<_}
 use native.Mathlib.Omega.{arith}
 use mathlib.Core.Bool.{Bool, true, false}
-use mathlib.Core.List.{List}
-use mathlib.Core.Path.{_≡_, refl, sym, _∙_}
-use lib.Dec.{ltb}
+use mathlib.Core.List.{List, [], _∷_, _++_}
+use mathlib.Core.Path.{_≡_}
+use lib.Dec.{nltb→le}
 use lib.ListN.{length}
-use lib.Ieee.{Float, neg}
-use borrow.Author.Tests.{lt-ltb, le-ltb, ltb-false}
-use Rattle.arith.specs.F64.{_≺_, e-9}
-use Rattle.profile.specs.Vertices.{count, vertexAt, any}
+use lib.Ieee.{Float}
+use borrow.Author.Tests.{lt-ltb, le-ltb, ne-eqb}
+use Rattle.profile.specs.Vertices.{count}
+use Rattle.profile.specs.Refusals.{Test, refusal, listTests}
+use Rattle.profile.specs.Replies.{value, turned-down, reply}
+use Rattle.profile.proofs.Each.{All, cons}
+use Rattle.profile.proofs.Refusals.Ordered.{Passes, refusal-append}
+use Rattle.profile.proofs.Refusals.Passed.{counted, taken}
+use Rattle.profile.proofs.Replies.{refused}
 use Rattle.builders.specs.Builder.{sectionOf, polygonOf}
-use Rattle.profile.specs.Refusals.{refuse, odd, fewer, more, notFinite, overLimit, anyOf, numbersRefusal}
-use Rattle.builders.specs.Kept.{sectionRefusal, polygonRefusal}
-use Rattle.builders.specs.Kept.{keptAnswer, sectionAnswer, polygonAnswer}
-use Rattle.profile.specs.Steps.{listRefusal}
+use Rattle.builders.specs.Kept.{told, belowAxis, sectionOwn, polygonOwn, sectionAnswer, polygonAnswer}
 use Rattle.builders.specs.Steps.{threeKept}
 use Rattle.builders.specs.declared.shapes.Kept.{Kept}
-use Rattle.builders.specs.declared.shapes.Kept.the-variants.{Numbers, Refused}
-use Rattle.profile.proofs.Refusals.Lowest.{five}
-use Rattle.builders.proofs.Builders.Kept.{not-kept, three-answer, accepted}
+use Rattle.builders.proofs.Builders.Kept.{three-answer, accepted}
 use Rattle.builders.proofs.Builders.Closing.{section-whole, polygon-whole}
 
--- a number that is not given
-pub refuse-none : (n : ℕ) (t : Bool) (rest : ℕ) → refuse (suc n) t rest ≡ 0 → (t ≡ false) × (rest ≡ 0)
-refuse-none n true rest e = absurd (omega arith)
-refuse-none n false rest e = (refl, e)
+-- the list's numbers, then a builder's own, of which k numbers are kept
+module _ (least most : ℕ) (s : List Float) (own : List Test) (k : ℕ) {n : ℕ} (e : n ≡ refusal (listTests least most s)) where
+  pub by-list : (n ≡ 0 → ⊥) → turned-down n ≡ reply (refusal (listTests least most s ++ own)) k
+  by-list h = rw (refusal-append (listTests least most s) own tt, ← e, ne-eqb n 0 h) (refused n k h)
 
--- numbers 1 to 5 of one list before what follows
-five-some : (a b c d e : Bool) (rest : ℕ) → (five a b c d e 0 ≡ 0 → ⊥) → five a b c d e rest ≡ five a b c d e 0
-five-some true b c d e rest h = refl
-five-some false true c d e rest h = refl
-five-some false false true d e rest h = refl
-five-some false false false true e rest h = refl
-five-some false false false false true rest h = refl
-five-some false false false false false rest h = absurd (h refl)
-
-five-none : (a b c d e : Bool) (rest : ℕ) → five a b c d e 0 ≡ 0 → five a b c d e rest ≡ rest
-five-none true b c d e rest h = absurd (omega arith)
-five-none false true c d e rest h = absurd (omega arith)
-five-none false false true d e rest h = absurd (omega arith)
-five-none false false false true e rest h = absurd (omega arith)
-five-none false false false false true rest h = absurd (omega arith)
-five-none false false false false false rest h = refl
-
-module _ (least most : ℕ) (s : List Float) (rest : ℕ) where
-  pub list-some : (listRefusal least most s 0 ≡ 0 → ⊥) → listRefusal least most s rest ≡ listRefusal least most s 0
-  unfolding listRefusal numbersRefusal
-  list-some = five-some (odd s) (fewer least s) (more most s) (anyOf notFinite s) (anyOf overLimit s) rest
-
-  pub list-none : listRefusal least most s 0 ≡ 0 → listRefusal least most s rest ≡ rest
-  unfolding listRefusal numbersRefusal
-  list-none = five-none (odd s) (fewer least s) (more most s) (anyOf notFinite s) (anyOf overLimit s) rest
-
-  pub list-taken : listRefusal least most s rest ≡ 0 → (least ≤ count s) × (count s ≤ most) × (rest ≡ 0)
-  unfolding listRefusal numbersRefusal
-  list-taken e =
-      let e₁ = refuse-none 0 (odd s) _ e in
-      let e₂ = refuse-none 1 (fewer least s) _ (e₁ .1) in
-      let e₃ = refuse-none 2 (more most s) _ (e₂ .1) in
-      let e₄ = refuse-none 3 (anyOf notFinite s) _ (e₃ .1) in
-      let e₅ = refuse-none 4 (anyOf overLimit s) _ (e₄ .1) in
-      (ltb-false (count s) least (e₂ .0), ltb-false most (count s) (e₃ .0), e₅ .1)
+  pub by-own : n ≡ 0 → reply (refusal (listTests least most s ++ own)) k ≡ reply (refusal own) k
+  by-own z = rw (refusal-append (listTests least most s) own tt, ← e, z)
 
 module _ (s space : List Float) where
-  abbrev below : Bool
-  below = any (λ k. vertexAt s k .r ≺ neg e-9) (count s)
-
-  abbrev sectionOwn : ℕ
-  sectionOwn =
-      refuse 6 below (refuse 7 (ltb (length space) (2 * (count s + 2))) (refuse 8 (ltb (count (sectionOf s)) 3) 0))
-
-  abbrev polygonOwn : ℕ
-  polygonOwn = refuse 7 (ltb (length space) (2 * count s)) (refuse 8 (ltb (count (polygonOf s)) 3) 0)
-
-  section-number : sectionRefusal s space ≡ listRefusal 2 254 s sectionOwn
-  unfolding sectionRefusal listRefusal
-  section-number = refl
-
-  polygon-number : polygonRefusal s space ≡ listRefusal 3 256 s polygonOwn
-  unfolding polygonRefusal listRefusal
-  polygon-number = refl
-
-  pub section-listed : {n : ℕ} → n ≡ listRefusal 2 254 s 0 → (n ≡ 0 → ⊥) → Refused n ≡ sectionAnswer s space
+  pub section-listed : {n : ℕ} → n ≡ refusal (listTests 2 254 s) → (n ≡ 0 → ⊥) → turned-down n ≡ sectionAnswer s space
   unfolding sectionAnswer
-  section-listed {n} e h =
-      rw (section-number, list-some 2 254 s sectionOwn (λ z. h (e ∙ z)), ← e) (not-kept (sectionOf s) n h)
+  section-listed e = by-list 2 254 s (sectionOwn s space) _ e
 
-  pub polygon-listed : {n : ℕ} → n ≡ listRefusal 3 256 s 0 → (n ≡ 0 → ⊥) → Refused n ≡ polygonAnswer s space
+  pub polygon-listed : {n : ℕ} → n ≡ refusal (listTests 3 256 s) → (n ≡ 0 → ⊥) → turned-down n ≡ polygonAnswer s space
   unfolding polygonAnswer
-  polygon-listed {n} e h =
-      rw (polygon-number, list-some 3 256 s polygonOwn (λ z. h (e ∙ z)), ← e) (not-kept (polygonOf s) n h)
+  polygon-listed e = by-list 3 256 s (polygonOwn s space) _ e
 
   -- no number of the list applies
-  module _ {n : ℕ} (e : n ≡ listRefusal 2 254 s 0) (z : n ≡ 0) {t : Bool} (f : t ≡ below) where
-    section-own : sectionAnswer s space ≡ keptAnswer sectionOwn (sectionOf s)
+  module _ {n : ℕ} (e : n ≡ refusal (listTests 2 254 s)) (z : n ≡ 0) {t : Bool} (f : t ≡ belowAxis s) where
+    section-own : sectionAnswer s space ≡ reply (refusal (sectionOwn s space)) (length (sectionOf s))
     unfolding sectionAnswer
-    section-own = rw (section-number, list-none 2 254 s sectionOwn (sym e ∙ z))
+    section-own = by-own 2 254 s (sectionOwn s space) _ e z
 
-    pub section-below : t ≡ true → Refused 6 ≡ sectionAnswer s space
+    pub section-below : t ≡ true → turned-down 6 ≡ sectionAnswer s space
+    unfolding refusal
     section-below y = rw (section-own, ← f, y)
 
-    pub section-small : t ≡ false → length space < count s * 2 + 4 → Refused 7 ≡ sectionAnswer s space
+    pub section-small : t ≡ false → length space < count s * 2 + 4 → turned-down 7 ≡ sectionAnswer s space
+    unfolding refusal
     section-small y h = rw (section-own, ← f, y, lt-ltb (length space) (2 * (count s + 2)) (omega arith))
 
     pub section-counted : t ≡ false → count s * 2 + 4 ≤ length space → {k : ℕ} → k ≡ count (sectionOf s) → {r : Kept}
-        → r ≡ threeKept k → r ≡ sectionAnswer s space
+        → r ≡ threeKept k → told r ≡ sectionAnswer s space
+    unfolding refusal
     section-counted y h c q =
-        rw (section-own, ← f, y, le-ltb (length space) (2 * (count s + 2)) (omega arith))
-        (q ∙ rw c (three-answer (sectionOf s) (section-whole s)))
+        rw (section-own, ← f, y, le-ltb (length space) (2 * (count s + 2)) (omega arith), q, c)
+        (three-answer (sectionOf s) (section-whole s))
 
-  module _ {n : ℕ} (e : n ≡ listRefusal 3 256 s 0) (z : n ≡ 0) where
-    polygon-own : polygonAnswer s space ≡ keptAnswer polygonOwn (polygonOf s)
+  module _ {n : ℕ} (e : n ≡ refusal (listTests 3 256 s)) (z : n ≡ 0) where
+    polygon-own : polygonAnswer s space ≡ reply (refusal (polygonOwn s space)) (length (polygonOf s))
     unfolding polygonAnswer
-    polygon-own = rw (polygon-number, list-none 3 256 s polygonOwn (sym e ∙ z))
+    polygon-own = by-own 3 256 s (polygonOwn s space) _ e z
 
-    pub polygon-small : length space < count s * 2 → Refused 7 ≡ polygonAnswer s space
+    pub polygon-small : length space < count s * 2 → turned-down 7 ≡ polygonAnswer s space
+    unfolding refusal
     polygon-small h = rw (polygon-own, lt-ltb (length space) (2 * count s) (omega arith))
 
     pub polygon-counted : count s * 2 ≤ length space → {k : ℕ} → k ≡ count (polygonOf s) → {r : Kept} → r ≡ threeKept k
-        → r ≡ polygonAnswer s space
+        → told r ≡ polygonAnswer s space
+    unfolding refusal
     polygon-counted h c q =
-        rw (polygon-own, le-ltb (length space) (2 * count s) (omega arith))
-        (q ∙ rw c (three-answer (polygonOf s) (polygon-whole s)))
+        rw (polygon-own, le-ltb (length space) (2 * count s) (omega arith), q, c)
+        (three-answer (polygonOf s) (polygon-whole s))
 
-  pub section-accepted : {m : ℕ} → Numbers m ≡ sectionAnswer s space
+  -- what an accepted builder was given
+  pub section-accepted : {m : ℕ} → value m ≡ sectionAnswer s space
       → (2 ≤ count s) × (count s ≤ 254) × (2 * (count s + 2) ≤ length space) × (m ≡ length (sectionOf s))
   unfolding sectionAnswer
   section-accepted {m} a =
       let k = accepted (sectionOf s) _ m a in
-      let l = list-taken 2 254 s sectionOwn (sym section-number ∙ k .0) in
-      let e₆ = refuse-none 5 below _ (l .2) in
-      let e₇ = refuse-none 6 (ltb (length space) (2 * (count s + 2))) _ (e₆ .1) in
-      (l .0, l .1, ltb-false (length space) (2 * (count s + 2)) (e₇ .0), k .1)
+      let p = taken 2 254 (s ∷ []) s (sectionOwn s space) tt (k .0) in
+      let c = counted (p .shapes) in
+      (c .enough, c .few, room (p .rest-passes), k .1)
+    where
+      room : All Passes (sectionOwn s space) → 2 * (count s + 2) ≤ length space
+      room (cons below (cons small kept)) = nltb→le (length space) (2 * (count s + 2)) small
 
-  pub polygon-accepted : {m : ℕ} → Numbers m ≡ polygonAnswer s space
+  pub polygon-accepted : {m : ℕ} → value m ≡ polygonAnswer s space
       → (3 ≤ count s) × (count s ≤ 256) × (2 * count s ≤ length space) × (m ≡ length (polygonOf s))
   unfolding polygonAnswer
   polygon-accepted {m} a =
       let k = accepted (polygonOf s) _ m a in
-      let l = list-taken 3 256 s polygonOwn (sym polygon-number ∙ k .0) in
-      let e₇ = refuse-none 6 (ltb (length space) (2 * count s)) _ (l .2) in
-      (l .0, l .1, ltb-false (length space) (2 * count s) (e₇ .0), k .1)
+      let p = taken 3 256 (s ∷ []) s (polygonOwn s space) tt (k .0) in
+      let c = counted (p .shapes) in
+      (c .enough, c .few, room (p .rest-passes), k .1)
+    where
+      room : All Passes (polygonOwn s space) → 2 * count s ≤ length space
+      room (cons small kept) = nltb→le (length space) (2 * count s) small

@@ -5,35 +5,49 @@ use mathlib.Core.Path.{_≡_, refl}
 use lib.Dec.{lit<, lit≤}
 use lib.Ieee.{Float}
 use Rattle.arith.specs.F64.{_≼_, e-15, e-9}
+use Rattle.arith.proofs.Laws.Sizes.{finite-raise}
+use Rattle.profile.proofs.Steps.{pick}
 use Rattle.boxes.specs.Boxes.{boxDistance}
-use Rattle.section.specs.Demand.{Bounded, UpTo}
-use Rattle.section.proofs.Demand.Accepted.{section-taken}
+use Rattle.section.specs.Demand.{Bounded}
+use Rattle.section.proofs.Demand.Bounds.{finite-upTo}
 use Rattle.section.proofs.Demand.Boxes.{box-upTo}
-use Rattle.section.proofs.Demand.Hits.{HitUpTo, VerticesUpTo}
-use Rattle.section.proofs.Demand.Lists.{All, cons}
+use Rattle.section.proofs.Demand.Hits.{BoxUpTo, HitUpTo, VerticesUpTo, hit-raise}
 use Rattle.section.proofs.Demand.Queries.{hit-bounded}
-use Rattle.section.proofs.Demand.Steps.{pick}
+use Rattle.section.proofs.Demand.UpTo.{upTo-raise, value-upTo}
 use Rattle.bands.specs.Axis.{axis}
 use Rattle.bands.specs.Band.{axialBox}
-use Rattle.cylinders.specs.Cylinders.{cylinderDistance, cylinderNumbers, cylinderRefusal}
-use Rattle.walk.specs.Walk.{bandDistance}
 use Rattle.bands.specs.declared.shapes.Axis.{Axis}
 use Rattle.bands.specs.declared.shapes.Axis.the-variants.{Axial, Neither, Radial}
 use Rattle.bands.specs.declared.shapes.Cylinder.{Cylinder}
-use Rattle.walk.specs.declared.shapes.CylinderHit.{CylinderHit}
 use Rattle.bands.specs.declared.shapes.RadialBand.{RadialBand}
-use Rattle.walk.proofs.Demand.Bands.{BandUpTo, CylinderUpTo, axialBox-upTo, bandOf-upTo, thinBox-upTo}
-use Rattle.walk.proofs.Demand.Walks.{hit-raise, walkAll-upTo, walked-upTo}
+use Rattle.bands.proofs.AxialBox.{axial-r0, axial-r1, axial-z0, axial-z1}
+use Rattle.bands.proofs.Limit.{CylinderInLimit, InLimit, bandOf-in-limit}
+use Rattle.walk.specs.Walk.{bandDistance}
+use Rattle.walk.specs.declared.shapes.CountedHit.{CountedHit}
+use Rattle.walk.proofs.Demand.Pieces.{thinBox-upTo}
+use Rattle.walk.proofs.Demand.Walks.{walkAll-upTo, walked-upTo}
+use Rattle.profile.specs.Refusals.{refusal}
+use Rattle.cylinders.specs.Cylinders.{cylinderDistance, cylinderTests}
+use Rattle.cylinders.proofs.Cover.Accepted.{accepted}
+
+axialBox-upTo : {c : Cylinder} → CylinderInLimit c → BoxUpTo 23 (axialBox c)
+axialBox-upTo C =
+    record {
+      z0 = upTo-raise (value-upTo 20 (axial-z0 C .value)) tt;
+      z1 = upTo-raise (value-upTo 20 (axial-z1 C .value)) tt;
+      r0 = finite-upTo (finite-raise (axial-r0 C) tt);
+      r1 = finite-upTo (finite-raise (axial-r1 C) tt);
+    }
 
 module _ {s : List Float} (S : VerticesUpTo 23 s) where
-  pub band-upTo : {b : RadialBand} → BandUpTo b → HitUpTo 28 (bandDistance s b .hit)
+  band-upTo : {b : RadialBand} → InLimit b → HitUpTo 28 (bandDistance s b .hit)
   unfolding bandDistance
   band-upTo {b} B =
-      pick (λ (w : CylinderHit). HitUpTo 28 (w .hit)) (b .radius ≼ e-15)
+      pick (λ (w : CountedHit). HitUpTo 28 (w .hit)) (b .radius ≼ e-15)
       (λ h. hit-raise (box-upTo S (thinBox-upTo B)) tt)
       (λ h. walked-upTo (walkAll-upTo S B e-9 8192 (lit< tt) (record { some = lit< tt; few = lit≤ tt })))
 
-  pub cylinder-upTo : {c : Cylinder} → CylinderUpTo c → HitUpTo 28 (cylinderDistance s c .hit)
+  cylinder-upTo : {c : Cylinder} → CylinderInLimit c → HitUpTo 28 (cylinderDistance s c .hit)
   unfolding cylinderDistance
   cylinder-upTo {c} C = by (axis c) refl
     where
@@ -42,15 +56,9 @@ module _ {s : List Float} (S : VerticesUpTo 23 s) where
 
       by : (a : Axis) → axis c ≡ a → HitUpTo 28 (cylinderDistance s c .hit)
       by Axial e = rw e along
-      by Radial e = rw e (band-upTo (bandOf-upTo C))
+      by Radial e = rw e (band-upTo (bandOf-in-limit C))
       by Neither e = rw e along
 
-pub numbers-upTo : {c : Cylinder} → All (UpTo 20) (cylinderNumbers c) → CylinderUpTo c
-numbers-upTo (cons ax (cons ay (cons az (cons bx (cons by (cons bz (cons r h))))))) =
-    record { a = record { x = ax; y = ay; z = az }; b = record { x = bx; y = by; z = bz }; radius = r }
-
-pub cylinder-bounded : (s : List Float) (c : Cylinder) → cylinderRefusal s c ≡ 0 → Bounded (cylinderDistance s c .hit)
-unfolding cylinderRefusal
-cylinder-bounded s c e =
-    let A = section-taken s (cylinderNumbers c) _ e in
-    hit-bounded (cylinder-upTo (A .section) (numbers-upTo (A .body))) tt
+pub cylinder-bounded : (s : List Float) (c : Cylinder) (extra : List Float) → refusal (cylinderTests s c extra) ≡ 0
+    → Bounded (cylinderDistance s c .hit)
+cylinder-bounded s c extra e = let A = accepted s c extra e in hit-bounded (cylinder-upTo (A .section) (A .cylinder)) tt

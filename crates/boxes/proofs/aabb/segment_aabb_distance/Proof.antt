@@ -1,7 +1,8 @@
 -- `boxes::aabb::segment_aabb_distance` meets its contract: the sides are sought from the best on. Assumes nothing.
 use Rattle.boxes.specs.Boxes.{edgeBox}
 use borrow.Author.Needs.{needs}
-use Rattle.boxes.proofs.Nearest.{nearest-from, segments-held}
+use Rattle.segments.proofs.Held.{segments-held}
+use Rattle.boxes.proofs.Nearest.{nearest-from}
 use Rattle.boxes.proofs.aabb.segment_aabb_distance.Statement.{statement}
 use Rattle.boxes.proofs.aabb.segment_aabb_distance.Tie as tie
 

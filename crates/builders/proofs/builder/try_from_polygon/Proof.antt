@@ -16,13 +16,13 @@ handed-back-requires c κs = search needs
 slice-aggregate-result : tie.Need-slice-aggregate-result
 slice-aggregate-result c =
     let e = c .before .before .before .before .write-polygon .ensures in
-    let long = polygon-long _ _ (c .before .handed-back .ensures) (e .0) in
-    long ∙ ap length (sym (handed _ _ long (e .1)))
+    let long = polygon-long _ _ (c .before .before .before .before .write-polygon .result) (c .before .handed-back .ensures) (e .equal) in
+    long ∙ ap length (sym (handed _ _ long (e .space-after)))
 
 returns : tie.Need-returns
 returns c =
     let e = c .before .before .before .before .write-polygon .ensures in
-    handed _ _ (polygon-long _ _ (c .before .handed-back .ensures) (e .0)) (e .1)
+    handed _ _ (polygon-long _ _ (c .before .before .before .before .write-polygon .result) (c .before .handed-back .ensures) (e .equal)) (e .space-after)
 
 pub try-from-polygon-spec : {M : Type 1} → statement M
 try-from-polygon-spec =

@@ -1,6 +1,6 @@
--- `capi::building::jorghipa_build_section` meets its contract: the answer's case, and the space as the builder leaves it. Assumes nothing.
+-- `capi::building::jorghipa_build_section` meets its contract: the answer's case, and the space as the builder leaves it.
 use borrow.Author.Needs.{needs}
-use Rattle.capi.proofs.Same.{builds}
+use Rattle.capi.proofs.Same.{gives}
 use Rattle.capi.proofs.building.jorghipa_build_section.Statement.{statement}
 use Rattle.capi.proofs.building.jorghipa_build_section.Tie as tie
 
@@ -15,8 +15,8 @@ same-length c = search needs
 
 returns : tie.Need-returns
 returns c =
-    builds (c .before .before .before .before .write-section .ensures .0) (c .give-count .ensures)
-    (c .before .before .before .before .write-section .ensures .1)
+    let built = c .before .before .before .before .write-section .ensures in
+    record { gives = gives (built .equal) (c .give-count .ensures); space-place = built .space-after }
 
 pub jorghipa-build-section-spec : {M : Type 1} → statement M
 jorghipa-build-section-spec =

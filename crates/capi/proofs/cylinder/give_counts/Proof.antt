@@ -1,6 +1,5 @@
--- `capi::cylinder::give_counts` meets its contract; the counts fit by its demand. Assumes nothing.
+-- `capi::cylinder::give_counts` meets its contract; the counts fit by its demand.
 use borrow.Author.Needs.{needs}
-use mathlib.Core.Path.{refl}
 use Rattle.capi.proofs.cylinder.give_counts.Statement.{statement}
 use Rattle.capi.proofs.cylinder.give_counts.Tie as tie
 
@@ -14,7 +13,7 @@ mark-of-requires : tie.Need-mark-of-requires
 mark-of-requires c κs = search needs
 
 returns : tie.Need-returns
-returns c = record { boxes = refl; waiting = refl; cut = c .mark-of .ensures }
+returns c = rw (c .mark-of .ensures)
 
 pub give-counts-spec : {M : Type 1} → statement M
 give-counts-spec = tie.close (tie.spec cast-boxes cast-waiting mark-of-requires returns)

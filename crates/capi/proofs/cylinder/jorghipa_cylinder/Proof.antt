@@ -1,7 +1,8 @@
--- `capi::cylinder::jorghipa_cylinder` meets its contract: the answer's case in the lent places; the counts fit by demand 3. Assumes nothing.
+-- `capi::cylinder::jorghipa_cylinder` meets its contract: the answer's case in the lent places; the counts fit by demand 3.
 use borrow.Author.Needs.{needs}
-use mathlib.Core.Path.{sym, _∙_}
-use Rattle.capi.proofs.Same.{few, walked, not-walked}
+use mathlib.Core.Path.{ap}
+use Rattle.cylinders.specs.Cylinders.{told}
+use Rattle.capi.proofs.Same.{few, measures, walked}
 use Rattle.capi.proofs.cylinder.jorghipa_cylinder.Statement.{statement}
 use Rattle.capi.proofs.cylinder.jorghipa_cylinder.Tie as tie
 
@@ -13,8 +14,8 @@ enum-known-answer c = search needs
 
 give-counts-requires : tie.Need-give-counts-requires
 give-counts-requires c κs =
-    few _ _ (c .before .before .before .before .before .answer .given .1)
-    (c .before .before .before .before .before .before .before .query-cylinder .ensures .1)
+    let d = c .before .before .before .before .before in
+    few _ _ (ap told (d .answer .given .1)) (d .before .before .query-cylinder .ensures .owed)
 
 give-requires : tie.Need-give-requires
 give-requires c κs = search needs
@@ -24,12 +25,14 @@ enum-known-answer-2 c = search needs
 
 returns : tie.Need-returns
 returns c =
-    let q = c .before .before .before .before .before .before .before .before .before .before .before .before .query-cylinder in
-    let told = c .before .before .before .before .before .before .before .before .before .before .answer in
-    walked (sym (q .ensures .0) ∙ told .given .1) (c .give .ensures) (c .before .before .before .before .give-counts .ensures)
+    let d = c .before .before .before .before .before .before .before .before .before .before in
+    measures (d .before .before .query-cylinder .ensures)
+    (walked (ap told (d .answer .given .1)) (c .give .ensures) (c .before .before .before .before .give-counts .ensures))
 
 returns-2 : tie.Need-returns-2
-returns-2 c = not-walked (sym (c .before .before .before .query-cylinder .ensures .0) ∙ c .before .answer2 .given .1)
+returns-2 c =
+    measures (c .before .before .before .query-cylinder .ensures)
+    (record { returned = rw (c .before .answer2 .given .1); lent = rw (c .before .answer2 .given .1) })
 
 pub jorghipa-cylinder-spec : {M : Type 1} → statement M
 jorghipa-cylinder-spec =

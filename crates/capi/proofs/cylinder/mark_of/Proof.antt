@@ -1,4 +1,4 @@
--- `capi::cylinder::mark_of` meets its contract. Assumes nothing.
+-- `capi::cylinder::mark_of` meets its contract.
 use Rattle.capi.proofs.cylinder.mark_of.Statement.{statement}
 use Rattle.capi.proofs.cylinder.mark_of.Tie as tie
 

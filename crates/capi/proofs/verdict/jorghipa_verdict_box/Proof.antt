@@ -1,6 +1,6 @@
--- `capi::verdict::jorghipa_verdict_box` meets its contract: the verdict's case in the lent place. Assumes nothing.
+-- `capi::verdict::jorghipa_verdict_box` meets its contract: the verdict's case in the lent place.
 use borrow.Author.Needs.{needs}
-use Rattle.capi.proofs.Same.{judges}
+use Rattle.capi.proofs.Same.{gives}
 use Rattle.capi.proofs.verdict.jorghipa_verdict_box.Statement.{statement}
 use Rattle.capi.proofs.verdict.jorghipa_verdict_box.Tie as tie
 
@@ -11,7 +11,7 @@ judge-requires : tie.Need-judge-requires
 judge-requires c κs = search needs
 
 returns : tie.Need-returns
-returns c = judges (c .before .before .verdict-box .ensures) (c .judge .ensures)
+returns c = gives (c .before .before .verdict-box .ensures) (c .judge .ensures)
 
 pub jorghipa-verdict-box-spec : {M : Type 1} → statement M
 jorghipa-verdict-box-spec = tie.close (tie.spec verdict-box-requires judge-requires returns)

@@ -1,4 +1,4 @@
--- `capi::verdict::judge` meets its contract, by the verdict's case. Assumes nothing.
+-- `capi::verdict::judge` meets its contract, by the verdict's case.
 use borrow.Author.Needs.{needs}
 use Rattle.capi.proofs.verdict.judge.Statement.{statement}
 use Rattle.capi.proofs.verdict.judge.Tie as tie
@@ -13,13 +13,13 @@ enum-known-verdict : tie.Need-enum-known-verdict
 enum-known-verdict c = search needs
 
 returns : tie.Need-returns
-returns c = let told = c .enum-told .given .1 in record { returned = rw told; collision-place = rw told }
+returns c = let told = c .enum-told .given .1 in record { returned = rw told; lent = rw told }
 
 returns-2 : tie.Need-returns-2
-returns-2 c = let told = c .enum-told2 .given .1 in record { returned = rw told; collision-place = rw told }
+returns-2 c = let told = c .enum-told2 .given .1 in record { returned = rw told; lent = rw told }
 
 returns-3 : tie.Need-returns-3
-returns-3 c = let told = c .before .verdict .given .1 in record { returned = rw told; collision-place = rw told }
+returns-3 c = let told = c .before .verdict .given .1 in record { returned = rw told; lent = rw told }
 
 pub judge-spec : {M : Type 1} → statement M
 judge-spec =

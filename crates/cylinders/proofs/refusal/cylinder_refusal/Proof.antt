@@ -1,30 +1,32 @@
--- `cylinders::refusal::cylinder_refusal` meets its contract. Assumes nothing.
-use Rattle.cylinders.specs.Cylinders.{cylinderRefusal}
-use Rattle.cylinders.proofs.Refusals.{own-later}
+-- `cylinders::refusal::cylinder_refusal` meets its contract: the numbers of its own parameter are f64.
 use borrow.Author.Needs.{needs}
+use Rattle.profile.specs.Refusals.{givenTests}
+use Rattle.profile.proofs.Refusals.Ordered.{own-after}
+use Rattle.cylinders.proofs.Given.{f64s}
 use Rattle.cylinders.proofs.refusal.cylinder_refusal.Statement.{statement}
 use Rattle.cylinders.proofs.refusal.cylinder_refusal.Tie as tie
 
-slice-aggregate-query-refusal : tie.Need-slice-aggregate-query-refusal
-slice-aggregate-query-refusal c = search needs
+slice-aggregate-body-refusal : tie.Need-slice-aggregate-body-refusal
+slice-aggregate-body-refusal c = search needs
 
-own-number-requires : tie.Need-own-number-requires
-own-number-requires c κs = search needs
+own-refusal-requires : tie.Need-own-refusal-requires
+own-refusal-requires c κs = search needs
 
-query-refusal-requires : tie.Need-query-refusal-requires
-query-refusal-requires c κs =
-    let start = c .before .before .before .before .before in
-    rw (c .own-number .ensures) (own-later (start .args .c .radius) (start .args .axis))
+body-refusal-requires : tie.Need-body-refusal-requires
+body-refusal-requires c κs = search needs
 
 returns : tie.Need-returns
-unfolding cylinderRefusal
 returns c =
-    let start = c .before .before .before .before .before .before in (
-      rw (← start .pre, ← c .before .own-number .ensures) (c .query-refusal .ensures .0),
-      c .query-refusal .ensures .1,
-    )
+    let start = c .before .before .before .before .before .before .before in
+    let g = start .good .1 .0 .1 .1 in
+    let a = g .0 .1 .1 in
+    let b = g .1 .0 .1 .1 in
+    record {
+      number =
+          rw (← start .pre) (own-after (givenTests _ _) _ tt (c .body-refusal .ensures) (c .before .own-refusal .ensures));
+      f64s = f64s _ (a .0 .1) (a .1 .0 .1) (a .1 .1 .0 .1) (b .0 .1) (b .1 .0 .1) (b .1 .1 .0 .1) (g .1 .1 .0 .1);
+    }
 
 pub cylinder-refusal-spec : {M : Type 1} → statement M
 cylinder-refusal-spec =
-    tie.close
-    (tie.spec slice-aggregate-query-refusal own-number-requires query-refusal-requires returns)
+    tie.close (tie.spec slice-aggregate-body-refusal own-refusal-requires body-refusal-requires returns)

@@ -1,4 +1,4 @@
--- `store_listing::bodies::body_answer` meets its contract. Assumes nothing.
+-- `store_listing::bodies::body_answer`: by the kind.
 use borrow.Author.Tests.{eq-eqb, ne-eqb}
 use Rattle.store_listing.specs.Listing.{bodyAnswer}
 use borrow.Author.Needs.{needs}

@@ -1,4 +1,4 @@
--- `store_listing::bodies::box_answer` meets its contract. Assumes nothing.
+-- `store_listing::bodies::box_answer`: the query of the body that its four numbers make.
 use borrow.Author.Needs.{needs}
 use Rattle.store_listing.proofs.bodies.box_answer.Statement.{statement}
 use Rattle.store_listing.proofs.bodies.box_answer.Tie as tie
@@ -25,7 +25,7 @@ returns c =
     let c₃ = c₂ .before in
     let c₄ = c₃ .before in
     rw (← c₄ .number-of .ensures, ← c₃ .number-of2 .ensures, ← c₂ .number-of3 .ensures, ← c₁ .number-of4 .ensures)
-    (c .aabb-polygon-distance .ensures .0)
+    (c .aabb-polygon-distance .ensures .equal)
 
 pub box-answer-spec : {M : Type 1} → statement M
 box-answer-spec =

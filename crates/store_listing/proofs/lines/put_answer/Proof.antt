@@ -1,7 +1,9 @@
--- `store_listing::lines::put_answer` meets its contract. Assumes nothing.
-use Rattle.store_listing.specs.Text.{text, decimal}
+-- `store_listing::lines::put_answer`. By the answer: its three fields, or a word and the number.
+use native.Mathlib.Omega.{arith}
+use lib.ListN.{length-append}
+use Rattle.store_listing.specs.Text.{text}
 use Rattle.store_listing.proofs.Pieces.{hit-room, refused-room}
-use Rattle.store_listing.proofs.Writing.{then, room-first, room-next}
+use Rattle.store_listing.proofs.Writing.{then}
 use borrow.Author.Needs.{needs}
 use Rattle.store_listing.proofs.lines.put_answer.Statement.{statement}
 use Rattle.store_listing.proofs.lines.put_answer.Tie as tie
@@ -13,7 +15,7 @@ put-hit-requires : tie.Need-put-hit-requires
 put-hit-requires c κs =
     let c₂ = c .before .before in
     let c₅ = c₂ .before .before .before in
-    hit-room _ (c₅ .pre) (c₂ .answer .given .1)
+    hit-room _ _ (c₅ .pre) (c₂ .answer .given .1)
 
 enum-known-answer-2 : tie.Need-enum-known-answer-2
 enum-known-answer-2 c = search needs
@@ -26,8 +28,7 @@ unfolding text
 put-word-requires c κs =
     let c₃ = c .before .before .before in
     let c₆ = c₃ .before .before .before in
-    room-first _ (text " refused ") (decimal (c₃ .answer2 .given .0 .0)) (refused-room _ (c₆ .pre)
-    (c₃ .answer2 .given .1))
+    omega (arith, simp length-append at (refused-room _ _ (c₆ .pre) (c₃ .answer2 .given .1)))
 
 cast-put-decimal : tie.Need-cast-put-decimal
 cast-put-decimal c = search needs
@@ -35,11 +36,8 @@ cast-put-decimal c = search needs
 put-decimal-requires : tie.Need-put-decimal-requires
 unfolding text
 put-decimal-requires c κs =
-    let c₃ = c .before .before .before in
-    let c₇ = c₃ .before .before .before .before in
-    let c₁₀ = c₇ .before .before .before in
-    room-next (c₃ .put-word .ensures) (decimal (c₇ .answer2 .given .0 .0)) (refused-room _ (c₁₀ .pre)
-    (c₇ .answer2 .given .1))
+    let c₇ = c .before .before .before .before .before .before .before in
+    omega (arith, simp length-append at (refused-room _ _ (c₇ .before .before .before .pre) (c₇ .answer2 .given .1)))
 
 same-length : tie.Need-same-length
 same-length c = search needs

@@ -1,9 +1,9 @@
--- `store_listing::lines::put_body_line` meets its contract. Assumes nothing.
-use mathlib.Core.List.{_++_}
-use Rattle.store_listing.specs.Text.{text, decimal}
-use Rattle.store_listing.specs.Listing.{answerText}
+-- `store_listing::lines::put_body_line`. Three pieces, one behind the other; the line's length is the sum of theirs.
+use native.Mathlib.Omega.{arith}
+use lib.ListN.{length-append}
+use Rattle.store_listing.specs.Text.{text}
 use Rattle.store_listing.proofs.Pieces.{line-of}
-use Rattle.store_listing.proofs.Writing.{then, room-first, room-next}
+use Rattle.store_listing.proofs.Writing.{then}
 use borrow.Author.Needs.{needs}
 use Rattle.store_listing.proofs.lines.put_body_line.Statement.{statement}
 use Rattle.store_listing.proofs.lines.put_body_line.Tie as tie
@@ -14,19 +14,14 @@ body-answer-requires c κs = search needs
 put-decimal-requires : tie.Need-put-decimal-requires
 put-decimal-requires c κs =
     let c₁ = c .before in
-    let c₅ = c₁ .before .before .before .before in
-    let d = decimal (c₅ .args .k) in
-    let a = answerText (c₁ .body-answer .result) in
-    room-first _ d a (room-first _ (d ++ a) (text "\n") (rw (line-of _ _ _ (c₁ .body-answer .ensures)) at (c₅ .pre)))
+    let room = rw (line-of _ _ _ (c₁ .body-answer .result) (c₁ .body-answer .ensures)) at (c₁ .before .before .before .before .pre) in
+    omega (arith, simp length-append at room)
 
 put-answer-requires : tie.Need-put-answer-requires
 put-answer-requires c κs =
-    let c₃ = c .before .before .before in
-    let c₅ = c₃ .before .before in
-    let c₉ = c₅ .before .before .before .before in
-    let a = answerText (c₅ .body-answer .result) in
-    room-next (c₃ .put-decimal .ensures) a (room-first _ (decimal (c₉ .args .k) ++ a) (text "\n") (rw (line-of _ _ _
-    (c₅ .body-answer .ensures)) at (c₉ .pre)))
+    let c₅ = c .before .before .before .before .before in
+    let room = rw (line-of _ _ _ (c₅ .body-answer .result) (c₅ .body-answer .ensures)) at (c₅ .before .before .before .before .pre) in
+    omega (arith, simp length-append at room)
 
 slice-aggregate-put-word : tie.Need-slice-aggregate-put-word
 slice-aggregate-put-word c = search needs
@@ -34,12 +29,10 @@ slice-aggregate-put-word c = search needs
 put-word-requires : tie.Need-put-word-requires
 unfolding text
 put-word-requires c κs =
-    let c₄ = c .before .before .before .before in
-    let c₈ = c₄ .before .before .before .before in
-    let c₁₀ = c₈ .before .before in
-    let c₁₄ = c₁₀ .before .before .before .before in
-    room-next (then (c₈ .put-decimal .ensures) (c₄ .put-answer .ensures)) (text "\n") (rw (line-of _ _ _
-    (c₁₀ .body-answer .ensures)) at (c₁₄ .pre))
+    let c₅ = c .before .before .before .before .before in
+    let c₁₀ = c₅ .before .before .before .before .before in
+    let room = rw (line-of _ _ _ (c₁₀ .body-answer .result) (c₁₀ .body-answer .ensures)) at (c₁₀ .before .before .before .before .pre) in
+    omega (arith, simp length-append at room)
 
 same-length : tie.Need-same-length
 same-length c = search needs
@@ -51,7 +44,7 @@ returns c =
     let c₇ = c₂ .before .before .before .before .before in
     let c₁₁ = c₇ .before .before .before .before in
     let c₁₃ = c₁₁ .before .before in
-    rw (line-of _ _ _ (c₁₃ .body-answer .ensures)) (then (then (c₁₁ .put-decimal .ensures) (c₇ .put-answer .ensures))
+    rw (line-of _ _ _ (c₁₃ .body-answer .result) (c₁₃ .body-answer .ensures)) (then (then (c₁₁ .put-decimal .ensures) (c₇ .put-answer .ensures))
     (c₂ .put-word .ensures))
 
 pub put-body-line-spec : {M : Type 1} → statement M

@@ -1,9 +1,9 @@
--- `store_listing::lines::put_refusal_line` meets its contract. Assumes nothing.
-use mathlib.Core.List.{_++_}
-use Rattle.store_listing.specs.Text.{text, decimal}
+-- `store_listing::lines::put_refusal_line`. Five pieces, one behind the other; the line's length is the sum of theirs.
+use native.Mathlib.Omega.{arith}
+use lib.ListN.{length-append}
+use Rattle.store_listing.specs.Text.{text}
 use Rattle.store_listing.specs.Listing.{refusalLine}
-use Rattle.store_listing.proofs.Pieces.{at-front}
-use Rattle.store_listing.proofs.Writing.{then, room-first, room-next}
+use Rattle.store_listing.proofs.Writing.{then}
 use borrow.Author.Needs.{needs}
 use Rattle.store_listing.proofs.lines.put_refusal_line.Statement.{statement}
 use Rattle.store_listing.proofs.lines.put_refusal_line.Tie as tie
@@ -13,70 +13,29 @@ slice-aggregate-put-word c = search needs
 
 put-word-requires : tie.Need-put-word-requires
 unfolding refusalLine text
-put-word-requires c κs =
-    let c₃ = c .before .before .before in
-    let n = decimal (c₃ .args .number) in
-    let k = decimal (c₃ .args .k) in
-    let w = text "refused " in
-    let at = text " at " in
-    room-first 0 w n (room-first 0 (w ++ n) at (room-first 0 (w ++ n ++ at) k (room-first 0 (w ++ n ++ at ++ k)
-    (text "\n") (at-front (c₃ .pre)))))
+put-word-requires c κs = omega (arith, simp length-append at (c .before .before .before .pre))
 
 put-decimal-requires : tie.Need-put-decimal-requires
 unfolding refusalLine text
-put-decimal-requires c κs =
-    let c₃ = c .before .before .before in
-    let c₇ = c₃ .before .before .before .before in
-    let n = decimal (c₇ .args .number) in
-    let k = decimal (c₇ .args .k) in
-    let w = text "refused " in
-    let at = text " at " in
-    room-next (c₃ .put-word .ensures) n (room-first 0 (w ++ n) at (room-first 0 (w ++ n ++ at) k (room-first 0
-    (w ++ n ++ at ++ k) (text "\n") (at-front (c₇ .pre)))))
+put-decimal-requires c κs = omega (arith, simp length-append at (c .before .before .before .before .before .before .before .pre))
 
 slice-aggregate-put-word-2 : tie.Need-slice-aggregate-put-word-2
 slice-aggregate-put-word-2 c = search needs
 
 put-word-requires-2 : tie.Need-put-word-requires-2
 unfolding refusalLine text
-put-word-requires-2 c κs =
-    let c₄ = c .before .before .before .before in
-    let c₈ = c₄ .before .before .before .before in
-    let c₁₂ = c₈ .before .before .before .before in
-    let n = decimal (c₁₂ .args .number) in
-    let k = decimal (c₁₂ .args .k) in
-    let w = text "refused " in
-    let at = text " at " in
-    room-next (then (c₈ .put-word .ensures) (c₄ .put-decimal .ensures)) at (room-first 0 (w ++ n ++ at) k (room-first
-    0 (w ++ n ++ at ++ k) (text "\n") (at-front (c₁₂ .pre))))
+put-word-requires-2 c κs = omega (arith, simp length-append at (c .before .before .before .before .before .before .before .before .before .before .before .before .pre))
 
 put-decimal-requires-2 : tie.Need-put-decimal-requires-2
 unfolding refusalLine text
-put-decimal-requires-2 c κs =
-    let c₃ = c .before .before .before in
-    let c₈ = c₃ .before .before .before .before .before in
-    let c₁₂ = c₈ .before .before .before .before in
-    let c₁₆ = c₁₂ .before .before .before .before in
-    let n = decimal (c₁₆ .args .number) in
-    let k = decimal (c₁₆ .args .k) in
-    let w = text "refused " in
-    let at = text " at " in
-    room-next (then (then (c₁₂ .put-word .ensures) (c₈ .put-decimal .ensures)) (c₃ .put-word2 .ensures)) k (room-first
-    0 (w ++ n ++ at ++ k) (text "\n") (at-front (c₁₆ .pre)))
+put-decimal-requires-2 c κs = omega (arith, simp length-append at (c .before .before .before .before .before .before .before .before .before .before .before .before .before .before .before .before .pre))
 
 slice-aggregate-put-word-3 : tie.Need-slice-aggregate-put-word-3
 slice-aggregate-put-word-3 c = search needs
 
 put-word-requires-3 : tie.Need-put-word-requires-3
 unfolding refusalLine text
-put-word-requires-3 c κs =
-    let c₄ = c .before .before .before .before in
-    let c₈ = c₄ .before .before .before .before in
-    let c₁₃ = c₈ .before .before .before .before .before in
-    let c₁₇ = c₁₃ .before .before .before .before in
-    let c₂₁ = c₁₇ .before .before .before .before in
-    room-next (then (then (then (c₁₇ .put-word .ensures) (c₁₃ .put-decimal .ensures)) (c₈ .put-word2 .ensures))
-    (c₄ .put-decimal2 .ensures)) (text "\n") (at-front (c₂₁ .pre))
+put-word-requires-3 c κs = omega (arith, simp length-append at (c .before .before .before .before .before .before .before .before .before .before .before .before .before .before .before .before .before .before .before .before .before .pre))
 
 same-length : tie.Need-same-length
 same-length c = search needs

@@ -1,11 +1,9 @@
--- `store_listing::lines::put_section_line` meets its contract. Assumes nothing.
-use Prim.Native.Nat.{_/_}
-use mathlib.Core.List.{_++_}
-use lib.ListN.{length}
-use Rattle.store_listing.specs.Text.{text, decimal}
+-- `store_listing::lines::put_section_line`. Three pieces, one behind the other; the line's length is the sum of theirs.
+use native.Mathlib.Omega.{arith}
+use lib.ListN.{length-append}
+use Rattle.store_listing.specs.Text.{text}
 use Rattle.store_listing.specs.Listing.{sectionLine}
-use Rattle.store_listing.proofs.Pieces.{at-front}
-use Rattle.store_listing.proofs.Writing.{then, room-first, room-next}
+use Rattle.store_listing.proofs.Writing.{then}
 use borrow.Author.Needs.{needs}
 use Rattle.store_listing.proofs.lines.put_section_line.Statement.{statement}
 use Rattle.store_listing.proofs.lines.put_section_line.Tie as tie
@@ -15,29 +13,18 @@ slice-aggregate-put-word c = search needs
 
 put-word-requires : tie.Need-put-word-requires
 unfolding sectionLine text
-put-word-requires c κs =
-    let c₄ = c .before .before .before .before in
-    let d = decimal (length (c₄ .args .s .now) / 2) in
-    room-first 0 (text "section ") d (room-first 0 (text "section " ++ d) (text "\n") (at-front (c₄ .pre)))
+put-word-requires c κs = omega (arith, simp length-append at (c .before .before .before .before .pre))
 
 put-decimal-requires : tie.Need-put-decimal-requires
 unfolding sectionLine text
-put-decimal-requires c κs =
-    let c₃ = c .before .before .before in
-    let c₈ = c₃ .before .before .before .before .before in
-    let d = decimal (length (c₈ .args .s .now) / 2) in
-    room-next (c₃ .put-word .ensures) d (room-first 0 (text "section " ++ d) (text "\n") (at-front (c₈ .pre)))
+put-decimal-requires c κs = omega (arith, simp length-append at (c .before .before .before .before .before .before .before .before .pre))
 
 slice-aggregate-put-word-2 : tie.Need-slice-aggregate-put-word-2
 slice-aggregate-put-word-2 c = search needs
 
 put-word-requires-2 : tie.Need-put-word-requires-2
 unfolding sectionLine text
-put-word-requires-2 c κs =
-    let c₄ = c .before .before .before .before in
-    let c₈ = c₄ .before .before .before .before in
-    let c₁₃ = c₈ .before .before .before .before .before in
-    room-next (then (c₈ .put-word .ensures) (c₄ .put-decimal .ensures)) (text "\n") (at-front (c₁₃ .pre))
+put-word-requires-2 c κs = omega (arith, simp length-append at (c .before .before .before .before .before .before .before .before .before .before .before .before .before .pre))
 
 same-length : tie.Need-same-length
 same-length c = search needs

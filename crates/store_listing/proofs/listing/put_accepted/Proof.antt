@@ -1,24 +1,21 @@
--- `store_listing::listing::put_accepted` meets its contract. Assumes nothing.
-use mathlib.Core.List.{flatMap}
-use Rattle.store_listing.specs.Listing.{acceptedText, sectionLine, recordLine}
-use Rattle.store_listing.proofs.Pieces.{at-front, first-of}
-use Rattle.store_listing.proofs.Writing.{then, room-next}
+-- `store_listing::listing::put_accepted`. The lines stand behind the section's.
+use native.Mathlib.Omega.{arith}
+use lib.ListN.{length-append}
+use Rattle.store_listing.specs.Listing.{acceptedText}
+use Rattle.store_listing.proofs.Writing.{then}
 use borrow.Author.Needs.{needs}
 use Rattle.store_listing.proofs.listing.put_accepted.Statement.{statement}
 use Rattle.store_listing.proofs.listing.put_accepted.Tie as tie
 
 put-section-line-requires : tie.Need-put-section-line-requires
 unfolding acceptedText
-put-section-line-requires c κs =
-    let c₅ = c .before .before .before .before .before in
-    first-of (sectionLine _) (flatMap (recordLine _ _) _) (c₅ .pre)
+put-section-line-requires c κs = omega (arith, simp length-append at (c .before .before .before .before .before .pre))
 
 put-lines-requires : tie.Need-put-lines-requires
 unfolding acceptedText
 put-lines-requires c κs =
-    let c₃ = c .before .before .before in
-    let c₉ = c₃ .before .before .before .before .before .before in
-    room-next (c₃ .put-section-line .ensures) (flatMap (recordLine _ _) _) (at-front (c₉ .pre))
+    let c₅ = c .before .before .before .before .before in
+    omega (arith, simp length-append at (c₅ .before .before .before .before .pre))
 
 same-length : tie.Need-same-length
 same-length c = search needs

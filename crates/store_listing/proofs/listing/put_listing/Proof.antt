@@ -1,4 +1,4 @@
--- `store_listing::listing::put_listing` meets its contract. Assumes nothing.
+-- `store_listing::listing::put_listing`. The listing as list_store put it, or the line of its refusal on the text as it was.
 use native.Mathlib.Omega.{arith}
 use mathlib.Core.Path.{sym, _∙_}
 use Rattle.store.specs.Store.{storeAnswer}
@@ -31,13 +31,13 @@ returns c =
     let c₃ = c .before .before .before in
     let c₆ = c₃ .before .before .before in
     listed-front (storeAnswer (c₆ .args .store .now)) (listing (c₆ .args .store .now)) _ (sym (c .before .answer .given .1)
-    ∙ c₃ .list-store .ensures .0) (c₃ .list-store .ensures .1)
+    ∙ c₃ .list-store .ensures .answer) (c₃ .list-store .ensures .buffer)
 
 returns-2 : tie.Need-returns-2
 returns-2 c =
     let c₃ = c .before .before .before in
     let c₅ = c₃ .before .before in
-    refused-front _ _ (sym (c₃ .answer2 .given .1) ∙ c₅ .list-store .ensures .0) (c₅ .list-store .ensures .1) (omega (
+    refused-front _ _ (sym (c₃ .answer2 .given .1) ∙ c₅ .list-store .ensures .answer) (c₅ .list-store .ensures .buffer) (omega (
       arith,
       refusal-short (c₃ .answer2 .given .0 .0) (c₃ .answer2 .given .0 .1 .0) (search needs) (search needs),
       c .before .put-refusal-line-arg .given .0 .1,

@@ -1,9 +1,8 @@
--- `store_listing::text::put_word` meets its contract: one byte goes in a turn. Assumes nothing.
+-- `store_listing::text::put_word`. One byte goes in a turn.
 use Prim.Native.Nat.{_+_, _-_, _≤_}
 use mathlib.Core.Path.{_≡_, refl}
 use lib.ListN.{length, take, length-set}
-use native.Mathlib.Omega.{arith}
-use Rattle.store_listing.specs.Promises.{Written}
+use Rattle.store_listing.specs.Steps.{Written}
 use Rattle.store_listing.proofs.Writing.{word-more, word-all}
 use borrow.Author.Needs.{needs}
 use Rattle.store_listing.proofs.text.put_word.Statement.{statement}

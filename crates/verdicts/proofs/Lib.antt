@@ -1,2 +1,0 @@
--- The law of a refused verdict.
-pub mod Refusals
