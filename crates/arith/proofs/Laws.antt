@@ -9,6 +9,10 @@ pub mod Depth
 pub mod Bounds
 pub mod Bounded
 pub mod BoundedValue
+pub mod Sizes
+pub mod SizedOrder
+pub mod Quotients
+pub mod Intervals
 pub mod RootKey
 pub mod NearestRoot
 pub mod RootBounded
@@ -22,3 +26,4 @@ pub mod HypotSquares
 pub mod HypotCorner
 pub mod Sqrt
 pub mod Constants
+pub mod Upright

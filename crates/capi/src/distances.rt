@@ -1,11 +1,12 @@
 // The distances of a point, a sphere, a box and a convex polygon.
 ghost use Rattle.arith.specs.Vector.{vec};
-ghost use Rattle.section.specs.Answers.{pointAnswer, sphereAnswer, boxAnswer, convexAnswer};
-ghost use Rattle.section.specs.Boxes.{aabb};
-ghost use Rattle.capi.specs.Interface.{Gives, places};
+ghost use Rattle.section.specs.Answers.{told, pointAnswer, sphereAnswer, boxAnswer, convexAnswer};
+ghost use Rattle.section.specs.Demand.{Bounded, BoundedOffAxis};
+ghost use Rattle.boxes.specs.Boxes.{aabb};
+ghost use Rattle.capi.specs.Interface.{Gives, Measures, ball, places, hitPlaces};
 use arith::Vec3;
+use profile::Sphere;
 use section::Answer;
-use section::Sphere;
 
 // Puts a hit into the lent places, and gives the number of a refusal.
 pub fn give(
@@ -14,7 +15,7 @@ pub fn give(
     witness_z: &mut f64,
     witness_radius: &mut f64,
 ) -> u32
-    ensures { λ r. ⌜ Gives answer r
+    ensures { λ r. ⌜ Gives hitPlaces (told answer) r
         (places (now (distance .entry)) (now («witness_z» .entry)) (now («witness_radius» .entry)))
         (places (now (distance .exit)) (now («witness_z» .exit)) (now («witness_radius» .exit))) ⌝ }
 {
@@ -40,9 +41,9 @@ pub extern "C" fn jorghipa_point(
     witness_z: &mut f64,
     witness_radius: &mut f64,
 ) -> u32
-    ensures { λ r. ⌜ Gives (pointAnswer (now (section .entry)) (vec x y z)) r
+    ensures { λ r. ⌜ (let s = now (section .entry) in Measures (BoundedOffAxis s) hitPlaces (pointAnswer s (vec x y z)) r
         (places (now (distance .entry)) (now («witness_z» .entry)) (now («witness_radius» .entry)))
-        (places (now (distance .exit)) (now («witness_z» .exit)) (now («witness_radius» .exit))) ⌝ }
+        (places (now (distance .exit)) (now («witness_z» .exit)) (now («witness_radius» .exit)))) ⌝ }
 {
     let answer = section::signed_distance(section, Vec3 { x, y, z });
     give(answer, distance, witness_z, witness_radius)
@@ -59,9 +60,9 @@ pub extern "C" fn jorghipa_sphere(
     witness_z: &mut f64,
     witness_radius: &mut f64,
 ) -> u32
-    ensures { λ r. ⌜ Gives (sphereAnswer (now (section .entry)) (record { center = vec x y z; radius = radius })) r
+    ensures { λ r. ⌜ (let s = now (section .entry) in Measures (BoundedOffAxis s) hitPlaces (sphereAnswer s (ball (vec x y z) radius)) r
         (places (now (distance .entry)) (now («witness_z» .entry)) (now («witness_radius» .entry)))
-        (places (now (distance .exit)) (now («witness_z» .exit)) (now («witness_radius» .exit))) ⌝ }
+        (places (now (distance .exit)) (now («witness_z» .exit)) (now («witness_radius» .exit)))) ⌝ }
 {
     let center = Vec3 { x, y, z };
     let answer = section::query_sphere(section, Sphere { center, radius });
@@ -79,7 +80,7 @@ pub extern "C" fn jorghipa_box(
     witness_z: &mut f64,
     witness_radius: &mut f64,
 ) -> u32
-    ensures { λ r. ⌜ Gives (boxAnswer (now (section .entry)) (aabb z0 z1 r0 r1)) r
+    ensures { λ r. ⌜ Measures Bounded hitPlaces (boxAnswer (now (section .entry)) (aabb z0 z1 r0 r1)) r
         (places (now (distance .entry)) (now («witness_z» .entry)) (now («witness_radius» .entry)))
         (places (now (distance .exit)) (now («witness_z» .exit)) (now («witness_radius» .exit))) ⌝ }
 {
@@ -95,7 +96,7 @@ pub extern "C" fn jorghipa_convex(
     witness_z: &mut f64,
     witness_radius: &mut f64,
 ) -> u32
-    ensures { λ r. ⌜ Gives (convexAnswer (now (convex .entry)) (now (section .entry))) r
+    ensures { λ r. ⌜ Measures Bounded hitPlaces (convexAnswer (now (convex .entry)) (now (section .entry))) r
         (places (now (distance .entry)) (now («witness_z» .entry)) (now («witness_radius» .entry)))
         (places (now (distance .exit)) (now («witness_z» .exit)) (now («witness_radius» .exit))) ⌝ }
 {

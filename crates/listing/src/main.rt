@@ -60,6 +60,6 @@ fn main() {
     let mut buffer = [0u8; 20480];
     let length = read_all(&mut buffer);
     let mut text = [0u8; 27848];
-    let n = store::list_input(&buffer, length, &mut text);
+    let n = store_listing::list_input(&buffer, length, &mut text);
     io::write_all(STDOUT_FILENO, &text[..n]);
 }

@@ -1,7 +1,5 @@
--- Vertices of a profile, document 01's builder, what is turned down, and the builders' answers. Steps is only what functions below
--- the entry points promise.
+-- Vertices of a profile, what is turned down, and what a call answers. Steps is only what functions below the entry points promise.
 pub mod Vertices
-pub mod Builder
 pub mod Refusals
-pub mod Kept
+pub mod Replies
 pub mod Steps

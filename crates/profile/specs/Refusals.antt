@@ -1,22 +1,33 @@
--- 01's table of what is turned down, numbers 1 to 10: the lowest number that applies over everything that is given, 0 for none.
--- Assumes nothing.
-use Prim.Native.Nat.{ℕ, _+_, _*_, _%_}
+-- What is turned down: a call's tests in the order in which it makes them, each with its number in 01's table. The first that is
+-- true gives the number, 0 for none.
+use Prim.Native.Nat.{ℕ, _%_}
 use mathlib.Core.Bool.{Bool, false, not, _||_, cond}
 use mathlib.Core.List.{List, [], _∷_, _++_}
 use lib.ListN.{length}
 use lib.Dec.{eqb, ltb}
-use lib.Ieee.{Float, neg}
-use Rattle.arith.specs.F64.{_≺_, 𝟘, e-9, limit}
+use lib.Ieee.{Float}
+use Rattle.arith.specs.F64.{_≺_, 𝟘, limit}
 use Rattle.arith.specs.Num.{abs, isFinite}
-use Rattle.profile.specs.Vertices.{count, vertexAt, any}
-use Rattle.profile.specs.Builder.{sectionOf, polygonOf}
+use Rattle.profile.specs.Vertices.{count}
 use Rattle.profile.specs.declared.shapes.Aabb.{Aabb}
 use Rattle.profile.specs.declared.shapes.Sphere.{Sphere}
 use Rattle.arith.specs.declared.vector.Vec3.{Vec3}
 
--- number n where the test is true, otherwise what follows
-abbrev pub refuse : ℕ → Bool → ℕ → ℕ
-refuse n test rest = cond test n rest
+infix 40 _when_
+-- a number of the table, and whether it applies
+pub record Test : Type 0 where
+  pub number : ℕ
+  pub applies : Bool
+
+abbrev pub _when_ : ℕ → Bool → Test
+n when b = record { number = n; applies = b }
+
+-- the number of the first test that is true, 0 for none
+unfoldable pub refusal : List Test → ℕ
+refusal [] = 0
+refusal (t ∷ ts) = cond (t .applies) (t .number) (refusal ts)
+
+-- ---- the parts of which a call's list is made
 
 -- the test is true of an element
 unfoldable pub anyOf : {A : Type 0} → (A → Bool) → List A → Bool
@@ -39,52 +50,52 @@ notFinite x = not (isFinite x)
 abbrev pub overLimit : Float → Bool
 overLimit x = limit ≺ abs x
 
--- numbers 4 and 5, over all numbers that are given
-unfoldable pub numbersRefusal : List Float → ℕ → ℕ
-numbersRefusal given rest = refuse 4 (anyOf notFinite given) (refuse 5 (anyOf overLimit given) rest)
+-- over every list, of least to most vertices or points
+abbrev pub shapeTests : ℕ → ℕ → List (List Float) → List Test
+shapeTests least most lists =
+    (1 when anyOf odd lists) ∷ (2 when anyOf (fewer least) lists) ∷ (3 when anyOf (more most) lists) ∷ []
 
--- numbers 1 to 5 of a query: over every list of vertices, then over every number, then the body's own
-unfoldable pub queryRefusal : List (List Float) → List Float → ℕ → ℕ
-queryRefusal lists given own =
-    refuse 1 (anyOf odd lists)
-    (refuse 2 (anyOf (fewer 3) lists)
-    (refuse 3 (anyOf (more 256) lists)
-    (numbersRefusal given own)))
+-- over all numbers that are given
+abbrev pub numberTests : List Float → List Test
+numberTests given = (4 when anyOf notFinite given) ∷ (5 when anyOf overLimit given) ∷ []
+
+-- one list alone
+abbrev pub listTests : ℕ → ℕ → List Float → List Test
+listTests least most l = shapeTests least most (l ∷ []) ++ numberTests l
+
+-- lists of 3 to 256 vertices, and all numbers that are given
+abbrev pub givenTests : List (List Float) → List Float → List Test
+givenTests lists given = shapeTests 3 256 lists ++ numberTests given
+
+-- the body's own
+abbrev pub radiusTests : Float → List Test
+radiusTests radius = (9 when radius ≺ 𝟘) ∷ []
+
+abbrev pub boundsTests : Aabb → List Test
+boundsTests x = (10 when ((x .z1 ≺ x .z0) || (x .r1 ≺ x .r0))) ∷ []
+
+-- ---- the calls: a section, a body, and more numbers that are given with them
+
+abbrev pub besideTests : List Float → List Float → List Float → List Test → List Test
+besideTests s numbers extra own = givenTests (s ∷ []) (s ++ (numbers ++ extra)) ++ own
 
 abbrev pub pointNumbers : Vec3 → List Float
 pointNumbers p = p .x ∷ p .y ∷ p .z ∷ []
 
-unfoldable pub pointRefusal : List Float → Vec3 → ℕ
-pointRefusal s p = queryRefusal (s ∷ []) (s ++ pointNumbers p) 0
+abbrev pub sphereNumbers : Sphere → List Float
+sphereNumbers b = pointNumbers (b .center) ++ (b .radius ∷ [])
 
-unfoldable pub sphereRefusal : List Float → Sphere → ℕ
-sphereRefusal s b =
-    queryRefusal (s ∷ []) (s ++ (pointNumbers (b .center) ++ (b .radius ∷ []))) (refuse 9 (b .radius ≺ 𝟘) 0)
+abbrev pub boxNumbers : Aabb → List Float
+boxNumbers x = x .z0 ∷ x .z1 ∷ x .r0 ∷ x .r1 ∷ []
 
-unfoldable pub boxRefusal : List Float → Aabb → ℕ
-boxRefusal s x =
-    queryRefusal (s ∷ []) (s ++ (x .z0 ∷ x .z1 ∷ x .r0 ∷ x .r1 ∷ []))
-    (refuse 10 ((x .z1 ≺ x .z0) || (x .r1 ≺ x .r0)) 0)
+abbrev pub pointTests : List Float → Vec3 → List Test
+pointTests s p = besideTests s (pointNumbers p) [] []
 
-unfoldable pub convexRefusal : List Float → List Float → ℕ
-convexRefusal c s = queryRefusal (c ∷ s ∷ []) (c ++ s) 0
+abbrev pub sphereTests : List Float → Sphere → List Float → List Test
+sphereTests s b extra = besideTests s (sphereNumbers b) extra (radiusTests (b .radius))
 
--- 2 to 254 section points, a radius not below -1e-9, room for two points more, three kept
-unfoldable pub sectionRefusal : List Float → List Float → ℕ
-sectionRefusal s space =
-    refuse 1 (odd s)
-    (refuse 2 (fewer 2 s)
-    (refuse 3 (more 254 s)
-    (numbersRefusal s
-    (refuse 6 (any (λ k. vertexAt s k .r ≺ neg e-9) (count s))
-    (refuse 7 (ltb (length space) (2 * (count s + 2)))
-    (refuse 8 (ltb (count (sectionOf s)) 3) 0))))))
+abbrev pub boxTests : List Float → Aabb → List Float → List Test
+boxTests s x extra = besideTests s (boxNumbers x) extra (boundsTests x)
 
-unfoldable pub polygonRefusal : List Float → List Float → ℕ
-polygonRefusal s space =
-    refuse 1 (odd s)
-    (refuse 2 (fewer 3 s)
-    (refuse 3 (more 256 s)
-    (numbersRefusal s
-    (refuse 7 (ltb (length space) (2 * count s))
-    (refuse 8 (ltb (count (polygonOf s)) 3) 0)))))
+abbrev pub convexTests : List Float → List Float → List Float → List Test
+convexTests c s extra = givenTests (c ∷ s ∷ []) (c ++ (s ++ extra))

@@ -1,19 +1,15 @@
-// What is turned down: 01's numbers 1 to 5, 9 and 10 of the queries, the lowest that applies, 0 for none.
+// What is turned down: a call's tests in their order, the number of the first that is true, 0 for none.
 ghost use mathlib.Core.Path.{_≡_};
-ghost use mathlib.Core.Bool.{_||_};
 ghost use mathlib.Core.List.{[], _∷_, _++_};
-ghost use mathlib.Core.Logic.{_⊎_};
-ghost use Prim.Native.Nat.{_≤_};
-ghost use Rattle.arith.specs.F64.{_≺_, 𝟘};
-ghost use Rattle.profile.specs.Vertices.{count};
 ghost use Rattle.profile.specs.Refusals as refusals;
-ghost use Rattle.profile.specs.Steps.{beyondLimit, lower, listRefusal};
+ghost use Rattle.profile.specs.Refusals.{refusal, anyOf};
+ghost use Rattle.profile.specs.Steps.{beyondLimit, orElse};
 use super::shapes::Aabb;
 use super::shapes::Sphere;
 use arith::Vec3;
 
 fn any_not_finite(l: &[f64]) -> bool
-    ensures { λ r. ⌜ r ≡ refusals.anyOf refusals.notFinite (now (l .entry)) ⌝ }
+    ensures { λ r. ⌜ r ≡ anyOf refusals.notFinite (now (l .entry)) ⌝ }
 {
     let mut i = 0;
     while i < l.len() {
@@ -27,7 +23,7 @@ fn any_not_finite(l: &[f64]) -> bool
 }
 
 fn any_beyond_limit(l: &[f64]) -> bool
-    ensures { λ r. ⌜ r ≡ refusals.anyOf beyondLimit (now (l .entry)) ⌝ }
+    ensures { λ r. ⌜ r ≡ anyOf beyondLimit (now (l .entry)) ⌝ }
 {
     let mut i = 0;
     while i < l.len() {
@@ -40,26 +36,46 @@ fn any_beyond_limit(l: &[f64]) -> bool
     false
 }
 
-// Numbers 4 and 5, otherwise the body's own number. One look at each number is enough where all are
-// within the limit.
-fn numbers_refusal(given: &[f64], own: u32) -> u32
-    ensures { λ r. ⌜ r ≡ refusals.numbersRefusal (now (given .entry)) own ⌝ }
+fn not_finite_in(a: &[f64], b: &[f64], c: &[f64]) -> bool
+    ensures { λ r. ⌜ r ≡ anyOf refusals.notFinite (now (a .entry) ++ (now (b .entry) ++ now (c .entry))) ⌝ }
 {
-    if any_beyond_limit(given) {
-        if any_not_finite(given) {
+    if any_not_finite(a) {
+        return true;
+    }
+    if any_not_finite(b) {
+        return true;
+    }
+    any_not_finite(c)
+}
+
+fn beyond_limit_in(a: &[f64], b: &[f64], c: &[f64]) -> bool
+    ensures { λ r. ⌜ r ≡ anyOf beyondLimit (now (a .entry) ++ (now (b .entry) ++ now (c .entry))) ⌝ }
+{
+    if any_beyond_limit(a) {
+        return true;
+    }
+    if any_beyond_limit(b) {
+        return true;
+    }
+    any_beyond_limit(c)
+}
+
+// Numbers 4 and 5 over three lists. One look at each number is enough where all are within the limit.
+fn numbers_refusal(a: &[f64], b: &[f64], c: &[f64]) -> u32
+    ensures { λ r. ⌜ r ≡ refusal (refusals.numberTests (now (a .entry) ++ (now (b .entry) ++ now (c .entry)))) ⌝ }
+{
+    if beyond_limit_in(a, b, c) {
+        if not_finite_in(a, b, c) {
             return 4;
         }
         return 5;
     }
-    own
+    0
 }
 
-// Numbers 1 to 5 of one list, of least to most vertices or points.
-pub fn list_refusal(l: &[f64], least: usize, most: usize) -> u32
-    ensures { λ r. ⌜
-        (r ≡ listRefusal least most (now (l .entry)) 0)
-        × (r ≡ 0 → (least ≤ count (now (l .entry))) × (count (now (l .entry)) ≤ most))
-        ⌝ }
+// Numbers 1 to 3 of a list of least to most vertices or points.
+fn shape_refusal(l: &[f64], least: usize, most: usize) -> u32
+    ensures { λ r. ⌜ r ≡ refusal (refusals.shapeTests least most (now (l .entry) ∷ [])) ⌝ }
 {
     let n = l.len() / 2;
     if l.len() % 2 == 1 {
@@ -71,32 +87,55 @@ pub fn list_refusal(l: &[f64], least: usize, most: usize) -> u32
     if most < n {
         return 3;
     }
-    numbers_refusal(l, 0)
+    0
 }
 
-// The lower of two numbers, 0 for none.
-fn lower_of(a: u32, b: u32) -> u32
-    ensures { λ r. ⌜ r ≡ lower a b ⌝ }
+// Numbers 1 to 3 of two lists of 3 to 256 vertices.
+fn shapes_refusal(c: &[f64], s: &[f64]) -> u32
+    ensures { λ r. ⌜ r ≡ refusal (refusals.shapeTests 3 256 (now (c .entry) ∷ now (s .entry) ∷ [])) ⌝ }
 {
-    if a == 0 {
-        return b;
+    let n = c.len() / 2;
+    let m = s.len() / 2;
+    if c.len() % 2 == 1 {
+        return 1;
     }
-    if b == 0 {
-        return a;
+    if s.len() % 2 == 1 {
+        return 1;
     }
-    if a < b { a } else { b }
+    if n < 3 {
+        return 2;
+    }
+    if m < 3 {
+        return 2;
+    }
+    if 256 < n {
+        return 3;
+    }
+    if 256 < m { 3 } else { 0 }
+}
+
+// Numbers 1 to 5 of one list of least to most vertices or points.
+pub fn list_refusal(l: &[f64], least: usize, most: usize) -> u32
+    ensures { λ r. ⌜ r ≡ refusal (refusals.listTests least most (now (l .entry))) ⌝ }
+{
+    let of_shape = shape_refusal(l, least, most);
+    if of_shape != 0 {
+        return of_shape;
+    }
+    let none = [0.0; 0];
+    numbers_refusal(l, &none, &none)
 }
 
 // Number 9: a body's radius is below 0.
-pub fn radius_number(radius: f64) -> u32
-    ensures { λ r. ⌜ (r ≡ refusals.refuse 9 (radius ≺ 𝟘) 0) × ((r ≡ 0) ⊎ (6 ≤ r)) ⌝ }
+fn radius_refusal(radius: f64) -> u32
+    ensures { λ r. ⌜ r ≡ refusal (refusals.radiusTests radius) ⌝ }
 {
     if radius < 0.0 { 9 } else { 0 }
 }
 
 // Number 10: the ends of a box are reversed.
-pub fn box_number(x: Aabb) -> u32
-    ensures { λ r. ⌜ (r ≡ refusals.refuse 10 ((x .z1 ≺ x .z0) || (x .r1 ≺ x .r0)) 0) × ((r ≡ 0) ⊎ (6 ≤ r)) ⌝ }
+fn bounds_refusal(x: Aabb) -> u32
+    ensures { λ r. ⌜ r ≡ refusal (refusals.boundsTests x) ⌝ }
 {
     if x.z1 < x.z0 {
         return 10;
@@ -104,61 +143,54 @@ pub fn box_number(x: Aabb) -> u32
     if x.r1 < x.r0 { 10 } else { 0 }
 }
 
-// A section of 3 to 256 vertices, the body's numbers, then the body's own.
-pub fn query_refusal(s: &[f64], body: &[f64], own: u32) -> u32
-    requires { ⌜ (own ≡ 0) ⊎ (6 ≤ own) ⌝ }
+// A section of 3 to 256 vertices, a body's numbers and more that are given, then the body's own number.
+pub fn body_refusal(s: &[f64], numbers: &[f64], extra: &[f64], own: u32) -> u32
     ensures { λ r. ⌜
-        (r ≡ refusals.queryRefusal (now (s .entry) ∷ []) (now (s .entry) ++ now (body .entry)) own)
-        × (r ≡ 0 → 3 ≤ count (now (s .entry)))
+        (let l = now (s .entry) in
+        r ≡ orElse (refusal (refusals.givenTests (l ∷ []) (l ++ (now (numbers .entry) ++ now (extra .entry))))) own)
         ⌝ }
 {
-    let of_section = list_refusal(s, 3, 256);
-    let of_body = numbers_refusal(body, own);
-    lower_of(of_section, of_body)
+    let of_shape = shape_refusal(s, 3, 256);
+    if of_shape != 0 {
+        return of_shape;
+    }
+    let of_numbers = numbers_refusal(s, numbers, extra);
+    if of_numbers != 0 {
+        return of_numbers;
+    }
+    own
 }
 
 pub fn point_refusal(s: &[f64], p: Vec3) -> u32
-    ensures { λ r. ⌜ (r ≡ refusals.pointRefusal (now (s .entry)) p) × (r ≡ 0 → 3 ≤ count (now (s .entry))) ⌝ }
+    ensures { λ r. ⌜ r ≡ refusal (refusals.pointTests (now (s .entry)) p) ⌝ }
 {
-    let body = [p.x, p.y, p.z];
-    query_refusal(s, &body[..], 0)
+    let numbers = [p.x, p.y, p.z];
+    let none = [0.0; 0];
+    body_refusal(s, &numbers[..], &none, 0)
 }
 
-pub fn sphere_refusal(s: &[f64], b: Sphere) -> u32
-    ensures { λ r. ⌜ (r ≡ refusals.sphereRefusal (now (s .entry)) b) × (r ≡ 0 → 3 ≤ count (now (s .entry))) ⌝ }
+pub fn sphere_refusal(s: &[f64], b: Sphere, extra: &[f64]) -> u32
+    ensures { λ r. ⌜ r ≡ refusal (refusals.sphereTests (now (s .entry)) b (now (extra .entry))) ⌝ }
 {
     let c = b.center;
-    let body = [c.x, c.y, c.z, b.radius];
-    query_refusal(s, &body[..], radius_number(b.radius))
+    let numbers = [c.x, c.y, c.z, b.radius];
+    body_refusal(s, &numbers[..], extra, radius_refusal(b.radius))
 }
 
-pub fn box_refusal(s: &[f64], x: Aabb) -> u32
-    ensures { λ r. ⌜ (r ≡ refusals.boxRefusal (now (s .entry)) x) × (r ≡ 0 → 3 ≤ count (now (s .entry))) ⌝ }
+pub fn box_refusal(s: &[f64], x: Aabb, extra: &[f64]) -> u32
+    ensures { λ r. ⌜ r ≡ refusal (refusals.boxTests (now (s .entry)) x (now (extra .entry))) ⌝ }
 {
-    let body = [x.z0, x.z1, x.r0, x.r1];
-    query_refusal(s, &body[..], box_number(x))
+    let numbers = [x.z0, x.z1, x.r0, x.r1];
+    body_refusal(s, &numbers[..], extra, bounds_refusal(x))
 }
 
-pub fn convex_refusal(c: &[f64], s: &[f64]) -> u32
-    ensures { λ r. ⌜
-        (r ≡ refusals.convexRefusal (now (c .entry)) (now (s .entry)))
-        × (r ≡ 0 → (3 ≤ count (now (c .entry))) × (3 ≤ count (now (s .entry))))
-        ⌝ }
+// Two lists of 3 to 256 vertices, and more numbers that are given.
+pub fn convex_refusal(c: &[f64], s: &[f64], extra: &[f64]) -> u32
+    ensures { λ r. ⌜ r ≡ refusal (refusals.convexTests (now (c .entry)) (now (s .entry)) (now (extra .entry))) ⌝ }
 {
-    let of_convex = list_refusal(c, 3, 256);
-    let of_polygon = list_refusal(s, 3, 256);
-    lower_of(of_convex, of_polygon)
-}
-
-// Two lists of 3 to 256 vertices, and more numbers.
-pub fn pair_refusal(c: &[f64], s: &[f64], more: &[f64]) -> u32
-    ensures { λ r. ⌜
-        (r ≡ refusals.queryRefusal (now (c .entry) ∷ now (s .entry) ∷ [])
-        (now (c .entry) ++ (now (s .entry) ++ now (more .entry))) 0)
-        × (r ≡ 0 → (3 ≤ count (now (c .entry))) × (3 ≤ count (now (s .entry))))
-        ⌝ }
-{
-    let of_convex = list_refusal(c, 3, 256);
-    let of_rest = query_refusal(s, more, 0);
-    lower_of(of_convex, of_rest)
+    let of_shapes = shapes_refusal(c, s);
+    if of_shapes != 0 {
+        return of_shapes;
+    }
+    numbers_refusal(c, s, extra)
 }

@@ -1,5 +1,4 @@
-// The records of a profile and of what stands beside it: vertices, boxes, spheres, hits, and the
-// answer of a builder.
+// The records of a profile and of what stands beside it: vertices, boxes, spheres, hits.
 use arith::Vec3;
 
 // As C lays it out: a slice of vertices can be lent from there.
@@ -26,10 +25,4 @@ pub struct Sphere {
 pub struct CollisionHit {
     pub distance: f64,
     pub witness: Vertex,
-}
-
-// The answer of a builder: how many numbers are kept, or the number under which it is turned down.
-pub enum Kept {
-    Numbers(usize),
-    Refused(u32),
 }

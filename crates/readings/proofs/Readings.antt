@@ -1,5 +1,5 @@
 -- Document 01's readings of the section S, and its examples of what is turned down (numbers 1 to 11): the definitions give every row of
--- the table, by computation. Assumes nothing.
+-- the table, by computation.
 use Prim.Native.Nat.{ℕ, zero, suc}
 use mathlib.Core.Bool.{false}
 use mathlib.Core.Path.{_≡_, refl}
@@ -12,31 +12,29 @@ use Rattle.roots.specs.Roots.{sqrt, hypot}
 use Rattle.arith.specs.Vector.{vec}
 use Rattle.arith.specs.declared.vector.Vec3.{Vec3}
 use Rattle.profile.specs.Vertices.{vertex, hit, upto, any, vertexAt}
-use Rattle.section.specs.Segments.{closest, closestPlaces, segments}
-use Rattle.section.specs.Points.{surfaceStep, surfaceNear, crossing, oddCrossings, insideAxisEdge, inSection}
-use Rattle.section.specs.Points.{pointDistance, sphereDistance}
-use Rattle.section.specs.Boxes.{clipSide, clip, edgeBox, wellInside, crossesBox, boxGap, boxPenetration, boxWitness}
-use Rattle.section.specs.Boxes.{boxHolds, result, boxDistance}
-use Rattle.profile.specs.Builder.{samePoint, keep, sectionPoints, sectionOf, polygonPoints, polygonOf}
-use Rattle.profile.specs.Refusals.{anyOf, numbersRefusal, queryRefusal, pointRefusal, sphereRefusal, boxRefusal}
-use Rattle.profile.specs.Refusals.{sectionRefusal, polygonRefusal}
+use Rattle.segments.specs.Segments.{closest, closestPlaces, segments}
+use Rattle.points.specs.Points.{surfaceStep, surfaceNear, crossing, oddCrossings, insideAxisEdge, inSection}
+use Rattle.points.specs.Points.{pointDistance, sphereDistance}
+use Rattle.segments.specs.Clip.{clipSide, clip}
+use Rattle.boxes.specs.Boxes.{edgeBox, wellInside, crossesBox, boxGap, boxPenetration, boxWitness}
+use Rattle.boxes.specs.Boxes.{boxHolds, boxDistance, aabb}
+use Rattle.points.specs.Overlap.{result}
+use Rattle.builders.specs.Builder.{samePoint, keep, sectionPoints, sectionOf, polygonPoints, polygonOf}
+use Rattle.profile.specs.Refusals.{refusal, anyOf}
+use Rattle.profile.specs.Replies.{Reply, value, turned-down}
 use Rattle.section.specs.Answers.{pointAnswer, sphereAnswer, boxAnswer}
-use Rattle.profile.specs.Kept.{sectionAnswer, polygonAnswer}
-use Rattle.walk.specs.Axis.{direction, axis}
-use Rattle.walk.specs.Band.{axialBox, bandOf, halfWidth, spanAt}
+use Rattle.builders.specs.Kept.{sectionAnswer, polygonAnswer}
+use Rattle.bands.specs.Axis.{direction, axis}
+use Rattle.bands.specs.Band.{axialBox, bandOf, halfWidth, spanAt}
 use Rattle.walk.specs.Pieces.{widest, narrowest, boxOf, variation}
 use Rattle.walk.specs.Walk.{sampleAt, sampled, walk, walkAll, bandDistance}
-use Rattle.walk.specs.Cylinders.{cylinderRefusal, cylinderDistance, cylinderAnswer}
-use Rattle.walk.specs.declared.shapes.Cylinder.{Cylinder}
-use Rattle.walk.specs.declared.shapes.CylinderAnswer.{CylinderAnswer}
-use Rattle.walk.specs.declared.shapes.CylinderAnswer.the-variants.{Hit as CylinderHits, Refused as CylinderRefused}
+use Rattle.cylinders.specs.Cylinders.{cylinderDistance, cylinderAnswer}
+use Rattle.bands.specs.declared.shapes.Cylinder.{Cylinder}
+use Rattle.walk.specs.declared.shapes.CountedHit.{CountedHit}
 use Rattle.profile.specs.declared.shapes.Vertex.{Vertex}
 use Rattle.profile.specs.declared.shapes.Aabb.{Aabb}
 use Rattle.profile.specs.declared.shapes.Sphere.{Sphere}
-use Rattle.section.specs.declared.shapes.Answer.{Answer}
-use Rattle.section.specs.declared.shapes.Answer.the-variants.{Hit, Refused}
-use Rattle.profile.specs.declared.shapes.Kept.{Kept}
-use Rattle.profile.specs.declared.shapes.Kept.the-variants.{Numbers, Refused as NotKept}
+use Rattle.profile.specs.declared.shapes.CollisionHit.{CollisionHit}
 
 abbrev pub mm : ℕ → Float
 mm n = ofInt binary64 (pos n)
@@ -48,13 +46,13 @@ S = sectionOf (mm 0 ∷ mm 10 ∷ mm 20 ∷ mm 10 ∷ [])
 -- A row: what a builder keeps; what a query of S answers; a distance that every point has; what a builder answers.
 pub data Row : Type 0 where
   keeps : List Float → List Float → Row
-  point : Vec3 → Answer → Row
-  sphere : Sphere → Answer → Row
-  box : Aabb → Answer → Row
-  cylinder : Cylinder → CylinderAnswer → Row
+  point : Vec3 → Reply CollisionHit → Row
+  sphere : Sphere → Reply CollisionHit → Row
+  box : Aabb → Reply CollisionHit → Row
+  cylinder : Cylinder → Reply CountedHit → Row
   everywhere : List Float → Float → Row
-  section : List Float → List Float → Kept → Row
-  polygon : List Float → List Float → Kept → Row
+  section : List Float → List Float → Reply ℕ → Row
+  polygon : List Float → List Float → Reply ℕ → Row
 
 abbrev pub Holds : Row → Type 0
 Holds (keeps given kept) = sectionOf given ≡ kept
@@ -78,19 +76,16 @@ at x y z = vec (mm x) (mm y) (mm z)
 abbrev pub ball : Vec3 → Float → Sphere
 ball center radius = record { center = center; radius = radius }
 
-abbrev pub rect : Float → Float → Float → Float → Aabb
-rect z0 z1 r0 r1 = record { z0 = z0; z1 = z1; r0 = r0; r1 = r1 }
-
-abbrev pub hits : Float → ℕ → ℕ → Answer
-hits d z r = Hit (hit d (vertex (mm z) (mm r)))
+abbrev pub hits : Float → ℕ → ℕ → Reply CollisionHit
+hits d z r = value (hit d (vertex (mm z) (mm r)))
 
 abbrev pub bar : Vec3 → Vec3 → Float → Cylinder
 bar a b radius = record { a = a; b = b; radius = radius }
 
 -- distance and witness; boxes measured and the most pieces that waited, uncut
-abbrev pub walks : Float → Float → Float → ℕ → ℕ → CylinderAnswer
+abbrev pub walks : Float → Float → Float → ℕ → ℕ → Reply CountedHit
 walks d z r boxes waiting =
-    CylinderHits (record { hit = hit d (vertex z r); boxes = boxes; waiting = waiting; cut = false })
+    value (record { hit = hit d (vertex z r); boxes = boxes; waiting = waiting; cut = false })
 
 -- 2 ^ -30, and 10 less 2 ^ -30
 abbrev pub thin : Float
@@ -111,29 +106,29 @@ readings =
     ∷ point (at 3 4 30) (hits (mm 10) 20 5)
     ∷ point (at 5 0 20) (hits (mm 0) 20 5)
     ∷ sphere (ball (at 0 0 30) (mm 4)) (hits (mm 6) 20 0)
-    ∷ box (rect (mm 25) (mm 30) (mm 0) (mm 5)) (hits (mm 5) 20 0)
-    ∷ box (rect (mm 18) (mm 30) (mm 0) (mm 5)) (hits (neg (mm 2)) 20 0)
-    ∷ box (rect (mm 20) (mm 25) (mm 0) (mm 5)) (hits (mm 0) 20 5)
-    ∷ box (rect (neg (mm 5)) (mm 25) (mm 5) (mm 15)) (hits (neg e-8) 20 10)
+    ∷ box (aabb (mm 25) (mm 30) (mm 0) (mm 5)) (hits (mm 5) 20 0)
+    ∷ box (aabb (mm 18) (mm 30) (mm 0) (mm 5)) (hits (neg (mm 2)) 20 0)
+    ∷ box (aabb (mm 20) (mm 25) (mm 0) (mm 5)) (hits (mm 0) 20 5)
+    ∷ box (aabb (neg (mm 5)) (mm 25) (mm 5) (mm 15)) (hits (neg e-8) 20 10)
     ∷ cylinder (bar (at 15 0 0) (at 15 0 30) (mm 2)) (walks (mm 3) (mm 0) (mm 10) 1 0)
     ∷ cylinder (bar (at 12 0 10) (at 30 0 10) (mm 0)) (walks (mm 2) (mm 10) (mm 10) 1 0)
     ∷ cylinder (bar (at 12 0 10) (at 30 0 10) thin) (walks (mm 2) nearly10 (mm 10) 1 1)
     ∷ keeps (mm 0 ∷ mm 0 ∷ mm 20 ∷ mm 0 ∷ []) (mm 0 ∷ mm 0 ∷ mm 20 ∷ mm 0 ∷ mm 0 ∷ mm 0 ∷ [])
     ∷ everywhere (mm 0 ∷ mm 0 ∷ mm 20 ∷ mm 0 ∷ []) ∞
     -- numbers 1 to 11
-    ∷ section (mm 0 ∷ mm 10 ∷ mm 20 ∷ []) (room 8) (NotKept 1)
-    ∷ section (mm 0 ∷ mm 10 ∷ []) (room 8) (NotKept 2)
-    ∷ polygon (room 514) (room 514) (NotKept 3)
-    ∷ section (nan ∷ mm 10 ∷ mm 20 ∷ mm 10 ∷ []) (room 8) (NotKept 4)
-    ∷ section (mm 1048577 ∷ mm 10 ∷ mm 20 ∷ mm 10 ∷ []) (room 8) (NotKept 5)
-    ∷ section (mm 0 ∷ neg (mm 1) ∷ mm 20 ∷ mm 10 ∷ []) (room 8) (NotKept 6)
-    ∷ section (mm 0 ∷ mm 10 ∷ mm 20 ∷ mm 10 ∷ []) (room 6) (NotKept 7)
-    ∷ section (mm 0 ∷ mm 10 ∷ mm 0 ∷ mm 0 ∷ []) (room 8) (NotKept 8)
-    ∷ sphere (ball (at 0 0 0) (neg (mm 1))) (Refused 9)
-    ∷ box (rect (mm 5) (mm 4) (mm 0) (mm 5)) (Refused 10)
-    ∷ cylinder (bar (at 0 0 0) (at 1 0 1) (mm 1)) (CylinderRefused 11)
+    ∷ section (mm 0 ∷ mm 10 ∷ mm 20 ∷ []) (room 8) (turned-down 1)
+    ∷ section (mm 0 ∷ mm 10 ∷ []) (room 8) (turned-down 2)
+    ∷ polygon (room 514) (room 514) (turned-down 3)
+    ∷ section (nan ∷ mm 10 ∷ mm 20 ∷ mm 10 ∷ []) (room 8) (turned-down 4)
+    ∷ section (mm 1048577 ∷ mm 10 ∷ mm 20 ∷ mm 10 ∷ []) (room 8) (turned-down 5)
+    ∷ section (mm 0 ∷ neg (mm 1) ∷ mm 20 ∷ mm 10 ∷ []) (room 8) (turned-down 6)
+    ∷ section (mm 0 ∷ mm 10 ∷ mm 20 ∷ mm 10 ∷ []) (room 6) (turned-down 7)
+    ∷ section (mm 0 ∷ mm 10 ∷ mm 0 ∷ mm 0 ∷ []) (room 8) (turned-down 8)
+    ∷ sphere (ball (at 0 0 0) (neg (mm 1))) (turned-down 9)
+    ∷ box (aabb (mm 5) (mm 4) (mm 0) (mm 5)) (turned-down 10)
+    ∷ cylinder (bar (at 0 0 0) (at 1 0 1) (mm 1)) (turned-down 11)
     -- the limit is taken, and a radius of -1e-9 is taken as 0
-    ∷ section (mm 1048576 ∷ mm 10 ∷ mm 20 ∷ mm 10 ∷ []) (room 8) (Numbers 8)
+    ∷ section (mm 1048576 ∷ mm 10 ∷ mm 20 ∷ mm 10 ∷ []) (room 8) (value 8)
     ∷ keeps (mm 0 ∷ neg e-9 ∷ mm 20 ∷ mm 10 ∷ []) (mm 0 ∷ mm 0 ∷ mm 20 ∷ mm 10 ∷ mm 20 ∷ mm 0 ∷ mm 0 ∷ mm 0 ∷ [])
     ∷ []
 
@@ -143,10 +138,9 @@ unfolding add sub mul div neg lt le ofInt ofBits sqrt hypot isFinite
     upto any closest closestPlaces segments surfaceStep surfaceNear crossing oddCrossings insideAxisEdge inSection
     pointDistance sphereDistance clipSide clip edgeBox wellInside crossesBox boxGap boxPenetration boxWitness
     boxHolds result boxDistance samePoint keep sectionPoints sectionOf polygonPoints polygonOf
-    anyOf numbersRefusal queryRefusal pointRefusal sphereRefusal boxRefusal sectionRefusal polygonRefusal
-    pointAnswer sphereAnswer boxAnswer sectionAnswer polygonAnswer
+    refusal anyOf pointAnswer sphereAnswer boxAnswer sectionAnswer polygonAnswer
     direction axis axialBox bandOf halfWidth spanAt widest narrowest boxOf variation sampleAt sampled walk walkAll bandDistance
-    cylinderRefusal cylinderDistance cylinderAnswer
+    cylinderDistance cylinderAnswer
 all-readings =
     let all-points : Holds (everywhere (mm 0 ∷ mm 0 ∷ mm 20 ∷ mm 0 ∷ []) ∞) = λ p. refl in
     refl and refl and refl and refl and refl and refl and refl and refl and refl and refl and refl and refl

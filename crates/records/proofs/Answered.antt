@@ -3,7 +3,7 @@
 use Prim.Native.Nat.{ℕ, _*_, _%_, _<_, _≤_}
 use native.Mathlib.Omega.{arith}
 use mathlib.Core.Bool.{true, false}
-use mathlib.Core.List.{List, [], _∷_}
+use mathlib.Core.List.{List, [], _∷_, _++_}
 use mathlib.Core.Logic.{_⊎_, inl, inr}
 use mathlib.Core.Path.{_≡_, refl, sym, _∙_, ap, subst}
 use lib.ListN.{length, take}
@@ -13,15 +13,15 @@ use borrow.Author.Tests.{ne-eqb, le-ltb, lt-ltb}
 use Rattle.arith.specs.declared.vector.Vec3.{Vec3}
 use Rattle.roots.proofs.Numbers.{decide}
 use Rattle.section.specs.Answers.{pointAnswer, sphereAnswer, boxAnswer}
-use Rattle.profile.specs.Refusals.{odd, fewer, more, anyOf, queryRefusal, pointRefusal, sphereRefusal, boxRefusal}
+use Rattle.profile.specs.Refusals.{Test, refusal, anyOf, odd, fewer, more, givenTests}
 use Rattle.profile.specs.Vertices.{count}
 use Rattle.profile.specs.declared.shapes.Aabb.{Aabb}
 use Rattle.section.specs.declared.shapes.Answer.the-variants as answers
 use Rattle.profile.specs.declared.shapes.Sphere.{Sphere}
 use Rattle.profile.specs.declared.shapes.Vertex.{Vertex}
-use Rattle.walk.specs.Cylinders.{cylinderAnswer, cylinderRefusal}
-use Rattle.walk.specs.declared.shapes.Cylinder.{Cylinder}
-use Rattle.walk.specs.declared.shapes.CylinderAnswer.the-variants as cylinder-answers
+use Rattle.cylinders.specs.Cylinders.{cylinderAnswer}
+use Rattle.bands.specs.declared.shapes.Cylinder.{Cylinder}
+use Rattle.cylinders.specs.declared.shapes.CountedAnswer.the-variants as cylinder-answers
 use Rattle.records.specs.Flattened.{flattened}
 use Rattle.records.specs.Steps.{OfFront, OfPoint, OfSphere, OfBox, OfCylinder}
 use Rattle.records.proofs.Filled.{Filled}
@@ -32,9 +32,9 @@ flattened-length [] = refl
 flattened-length (x ∷ xs) = let e : length (flattened xs) ≡ 2 * length xs = flattened-length xs in omega arith
 
 module _ (xs : List Vertex) (h : 256 < length xs) where
-  query-too-many : (given : List Float) (own : ℕ) → queryRefusal (flattened xs ∷ []) given own ≡ 3
-  unfolding queryRefusal anyOf
-  query-too-many given own =
+  number-three : (given : List Float) (own : List Test) → refusal (givenTests (flattened xs ∷ []) given ++ own) ≡ 3
+  unfolding refusal anyOf
+  number-three given own =
       let e : length (flattened xs) ≡ 2 * length xs = flattened-length xs in
       let even : odd (flattened xs) ≡ false = ne-eqb (length (flattened xs) % 2) 1 (λ o. omega arith) in
       let enough : fewer 3 (flattened xs) ≡ false = le-ltb (count (flattened xs)) 3 (omega arith) in
@@ -43,20 +43,20 @@ module _ (xs : List Vertex) (h : 256 < length xs) where
 
   -- a refusal owes nothing but its number
   pub point-too-many : (p : Vec3) → OfPoint p (flattened xs) (answers.Refused 3)
-  unfolding pointAnswer pointRefusal
-  point-too-many p = (rw (query-too-many _ _), tt)
+  unfolding pointAnswer
+  point-too-many p = record { equal = rw (number-three _ _); owed = tt }
 
   pub sphere-too-many : (b : Sphere) → OfSphere b (flattened xs) (answers.Refused 3)
-  unfolding sphereAnswer sphereRefusal
-  sphere-too-many b = (rw (query-too-many _ _), tt)
+  unfolding sphereAnswer
+  sphere-too-many b = record { equal = rw (number-three _ _); owed = tt }
 
   pub box-too-many : (x : Aabb) → OfBox x (flattened xs) (answers.Refused 3)
-  unfolding boxAnswer boxRefusal
-  box-too-many x = (rw (query-too-many _ _), tt)
+  unfolding boxAnswer
+  box-too-many x = record { equal = rw (number-three _ _); owed = tt }
 
   pub cylinder-too-many : (c : Cylinder) → OfCylinder c (flattened xs) (cylinder-answers.Refused 3)
-  unfolding cylinderAnswer cylinderRefusal
-  cylinder-too-many c = (rw (query-too-many _ _), tt)
+  unfolding cylinderAnswer
+  cylinder-too-many c = record { equal = rw (number-three _ _); owed = tt }
 
 -- the end of the loop
 module _ (xs : List Vertex) (i : ℕ) (l : List Float) (f : Filled xs i l) (h : length xs ≤ i) where
@@ -67,10 +67,10 @@ module _ (xs : List Vertex) (i : ℕ) (l : List Float) (f : Filled xs i l) (h : 
       subst (λ (j : ℕ). take (2 * j) l ≡ flattened (take j xs)) all (f .front (omega arith))
       ∙ ap flattened (take-all (length xs) xs (omega arith))
 
-  pub answered : {R : Type 0} (P : List Float → R → Type 0) (refusal r : R) → (256 < length xs → P (flattened xs) refusal)
-      → OfFront P refusal l (length xs) r → P (flattened xs) r
-  answered {R} P refusal r too-many a = by (decide (length xs) 256)
+  pub answered : {R : Type 0} (P : List Float → R → Type 0) (refused r : R) → (256 < length xs → P (flattened xs) refused)
+      → OfFront P refused l (length xs) r → P (flattened xs) r
+  answered {R} P refused r three a = by (decide (length xs) 256)
     where
       by : (length xs ≤ 256) ⊎ (256 < length xs) → P (flattened xs) r
       by (inl k) = subst (λ (s : List Float). P s r) (whole k) (a .front k)
-      by (inr k) = subst (λ (x : R). P (flattened xs) x) (sym (a .many k)) (too-many k)
+      by (inr k) = subst (λ (x : R). P (flattened xs) x) (sym (a .many k)) (three k)

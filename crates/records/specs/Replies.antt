@@ -1,22 +1,21 @@
--- What the C interface over records takes and gives: a body as its numbers, and an answer as one record. Assumes nothing.
+-- What the C interface over records takes and gives: a body as its numbers, and an answer as one record.
 use mathlib.Core.Bool.{false}
 use Rattle.arith.specs.F64.{𝟘}
 use Rattle.arith.specs.Vector.{vec}
 use Rattle.arith.specs.declared.vector.Vec3.{Vec3}
-use Rattle.section.specs.Boxes.{aabb}
+use Rattle.boxes.specs.Boxes.{aabb}
+use Rattle.profile.specs.Replies.{Reply, value, turned-down}
 use Rattle.profile.specs.declared.shapes.Aabb.{Aabb}
-use Rattle.section.specs.declared.shapes.Answer.{Answer}
-use Rattle.section.specs.declared.shapes.Answer.the-variants.{Hit, Refused}
+use Rattle.profile.specs.declared.shapes.CollisionHit.{CollisionHit}
 use Rattle.profile.specs.declared.shapes.Sphere.{Sphere}
-use Rattle.walk.specs.declared.shapes.Cylinder.{Cylinder}
-use Rattle.walk.specs.declared.shapes.CylinderAnswer.{CylinderAnswer}
-use Rattle.walk.specs.declared.shapes.CylinderAnswer.the-variants.{Hit as Walked, Refused as NotWalked}
+use Rattle.bands.specs.declared.shapes.Cylinder.{Cylinder}
+use Rattle.walk.specs.declared.shapes.CountedHit.{CountedHit}
 use Rattle.records.specs.declared.replies.Ball.{Ball}
 use Rattle.records.specs.declared.replies.Bar.{Bar}
 use Rattle.records.specs.declared.replies.Bounds.{Bounds}
 use Rattle.records.specs.declared.replies.CylinderReply.{CylinderReply}
 use Rattle.records.specs.declared.replies.Place.{Place}
-use Rattle.records.specs.declared.replies.Reply.{Reply}
+use Rattle.records.specs.declared.replies.Reply as c
 
 abbrev pub pointOf : Place → Vec3
 pointOf x = vec (x .x) (x .y) (x .z)
@@ -31,13 +30,13 @@ abbrev pub cylinderOf : Bar → Cylinder
 cylinderOf x = record { a = vec (x .ax) (x .ay) (x .az); b = vec (x .bx) (x .by) (x .bz); radius = x .radius }
 
 -- the hit and the number 0, or the number and nothing else
-abbrev pub reply : Answer → Reply
-reply (Hit h) =
+abbrev pub cReply : Reply CollisionHit → c.Reply
+cReply (value h) =
     record { distance = h .distance; «witness_z» = h .witness .z; «witness_radius» = h .witness .r; number = 0 }
-reply (Refused n) = record { distance = 𝟘; «witness_z» = 𝟘; «witness_radius» = 𝟘; number = n }
+cReply (turned-down n) = record { distance = 𝟘; «witness_z» = 𝟘; «witness_radius» = 𝟘; number = n }
 
-abbrev pub cylinderReply : CylinderAnswer → CylinderReply
-cylinderReply (Walked h) = record {
+abbrev pub cCylinderReply : Reply CountedHit → CylinderReply
+cCylinderReply (value h) = record {
   distance = h .hit .distance;
   «witness_z» = h .hit .witness .z;
   «witness_radius» = h .hit .witness .r;
@@ -46,7 +45,7 @@ cylinderReply (Walked h) = record {
   number = 0;
   cut = h .cut;
 }
-cylinderReply (NotWalked n) = record {
+cCylinderReply (turned-down n) = record {
   distance = 𝟘;
   «witness_z» = 𝟘;
   «witness_radius» = 𝟘;

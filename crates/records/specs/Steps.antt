@@ -1,4 +1,4 @@
--- What the functions below the entry points compute and promise on the way. Assumes nothing.
+-- What the functions below the entry points compute and promise on the way.
 use Prim.Native.Nat.{ℕ, _+_, _*_, _<_, _≤_}
 use mathlib.Core.Bool.{cond}
 use mathlib.Core.List.{List}
@@ -7,17 +7,18 @@ use lib.Dec.{ltb}
 use lib.ListN.{set, take}
 use lib.Ieee.{Float}
 use Rattle.arith.specs.declared.vector.Vec3.{Vec3}
-use Rattle.section.specs.Answers.{pointAnswer, sphereAnswer, boxAnswer}
-use Rattle.section.specs.Demand.{OfHit as Of, Bounded, BoundedOffAxis}
+use Rattle.section.specs.Answers.{told, pointAnswer, sphereAnswer, boxAnswer}
+use Rattle.section.specs.Demand.{Bounded, BoundedOffAxis}
+use Rattle.profile.specs.Replies.{Answers}
 use Rattle.profile.specs.declared.shapes.Aabb.{Aabb}
 use Rattle.section.specs.declared.shapes.Answer.{Answer}
 use Rattle.profile.specs.declared.shapes.Sphere.{Sphere}
 use Rattle.profile.specs.declared.shapes.Vertex.{Vertex}
-use Rattle.walk.specs.Cover.{OfHit, Promised}
-use Rattle.walk.specs.Cylinders.{cylinderAnswer}
-use Rattle.walk.specs.declared.shapes.Cylinder.{Cylinder}
-use Rattle.walk.specs.declared.shapes.CylinderAnswer.{CylinderAnswer}
-use Rattle.records.specs.Replies.{pointOf, sphereOf, boxOf, cylinderOf, reply, cylinderReply}
+use Rattle.cylinders.specs.Promised.{Promised}
+use Rattle.cylinders.specs.Cylinders.{told as cylinderTold, cylinderAnswer}
+use Rattle.bands.specs.declared.shapes.Cylinder.{Cylinder}
+use Rattle.cylinders.specs.declared.shapes.CountedAnswer.{CountedAnswer}
+use Rattle.records.specs.Replies.{pointOf, sphereOf, boxOf, cylinderOf, cReply, cCylinderReply}
 use Rattle.records.specs.declared.replies.Ball.{Ball}
 use Rattle.records.specs.declared.replies.Bar.{Bar}
 use Rattle.records.specs.declared.replies.Bounds.{Bounds}
@@ -35,29 +36,29 @@ next i n = cond (ltb i 256) (i + 1) n
 
 -- ---- what each query of the core promises of its answer r on the section s
 abbrev pub OfPoint : Vec3 → List Float → Answer → Type 0
-OfPoint p s r = (r ≡ pointAnswer s p) × Of (BoundedOffAxis s) r
+OfPoint p s r = Answers (told r) (pointAnswer s p) (BoundedOffAxis s)
 
 abbrev pub OfSphere : Sphere → List Float → Answer → Type 0
-OfSphere b s r = (r ≡ sphereAnswer s b) × Of (BoundedOffAxis s) r
+OfSphere b s r = Answers (told r) (sphereAnswer s b) (BoundedOffAxis s)
 
 abbrev pub OfBox : Aabb → List Float → Answer → Type 0
-OfBox x s r = (r ≡ boxAnswer s x) × Of Bounded r
+OfBox x s r = Answers (told r) (boxAnswer s x) Bounded
 
-abbrev pub OfCylinder : Cylinder → List Float → CylinderAnswer → Type 0
-OfCylinder c s r = (r ≡ cylinderAnswer s c) × OfHit (Promised s c) r
+abbrev pub OfCylinder : Cylinder → List Float → CountedAnswer → Type 0
+OfCylinder c s r = Answers (cylinderTold r) (cylinderAnswer s c) (Promised s c)
 
 -- the same of the C interface's replies
 abbrev pub OfPlace : Place → List Float → Reply → Type 0
-OfPlace x s r = r ≡ reply (pointAnswer s (pointOf x))
+OfPlace x s r = r ≡ cReply (pointAnswer s (pointOf x))
 
 abbrev pub OfBall : Ball → List Float → Reply → Type 0
-OfBall x s r = r ≡ reply (sphereAnswer s (sphereOf x))
+OfBall x s r = r ≡ cReply (sphereAnswer s (sphereOf x))
 
 abbrev pub OfBounds : Bounds → List Float → Reply → Type 0
-OfBounds x s r = r ≡ reply (boxAnswer s (boxOf x))
+OfBounds x s r = r ≡ cReply (boxAnswer s (boxOf x))
 
 abbrev pub OfBar : Bar → List Float → CylinderReply → Type 0
-OfBar x s r = r ≡ cylinderReply (cylinderAnswer s (cylinderOf x))
+OfBar x s r = r ≡ cCylinderReply (cylinderAnswer s (cylinderOf x))
 
 -- r keeps a promise on the first n vertices of l, and is the given refusal where there are more than 256
 pub record OfFront {R : Type 0} (P : List Float → R → Type 0) (refusal : R) (l : List Float) (n : ℕ) (r : R) : Type 0 where

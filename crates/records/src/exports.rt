@@ -1,12 +1,11 @@
 // The C interface over vertex records: the section as a pointer to them and their count, the body and
 // the answer as records too. jorghipa_records.h declares it and says what the caller owes.
 ghost use mathlib.Core.Path.{_≡_};
+ghost use Rattle.profile.specs.Replies.{turned-down};
 ghost use Rattle.section.specs.Answers.{pointAnswer, sphereAnswer, boxAnswer};
-ghost use Rattle.section.specs.declared.shapes.Answer.the-variants as answers;
-ghost use Rattle.walk.specs.Cylinders.{cylinderAnswer};
-ghost use Rattle.walk.specs.declared.shapes.CylinderAnswer.the-variants as cylinder-answers;
+ghost use Rattle.cylinders.specs.Cylinders.{cylinderAnswer};
 ghost use Rattle.records.specs.Flattened.{flattened};
-ghost use Rattle.records.specs.Replies.{pointOf, sphereOf, boxOf, cylinderOf, reply, cylinderReply};
+ghost use Rattle.records.specs.Replies.{pointOf, sphereOf, boxOf, cylinderOf, cReply, cCylinderReply};
 ghost use Rattle.records.specs.Steps.{OfFront, OfPlace, OfBall, OfBounds, OfBar};
 use super::copying::blank;
 use super::copying::put;
@@ -26,10 +25,10 @@ use super::replies::cylinder_reply_of;
 use super::replies::point_of;
 use super::replies::reply_of;
 use super::replies::sphere_of;
-use section::Vertex;
+use profile::Vertex;
 
 fn point_reply(items: &[f64; 512], n: usize, place: Place) -> Reply
-    ensures { λ r. ⌜ OfFront (OfPlace place) (reply (answers.Refused 3)) (now (items .entry)) n r ⌝ }
+    ensures { λ r. ⌜ OfFront (OfPlace place) (cReply (turned-down 3)) (now (items .entry)) n r ⌝ }
 {
     let point = point_of(place);
     let answer = point_front(items, n, point);
@@ -38,7 +37,7 @@ fn point_reply(items: &[f64; 512], n: usize, place: Place) -> Reply
 
 #[no_mangle]
 pub extern "C" fn jorghipa_point_of(section: &[Vertex], place: Place) -> Reply
-    ensures { λ r. ⌜ r ≡ reply (pointAnswer (flattened (now (section .entry))) (pointOf place)) ⌝ }
+    ensures { λ r. ⌜ r ≡ cReply (pointAnswer (flattened (now (section .entry))) (pointOf place)) ⌝ }
 {
     let mut items = blank();
     let n = section.len();
@@ -50,7 +49,7 @@ pub extern "C" fn jorghipa_point_of(section: &[Vertex], place: Place) -> Reply
 }
 
 fn sphere_reply(items: &[f64; 512], n: usize, ball: Ball) -> Reply
-    ensures { λ r. ⌜ OfFront (OfBall ball) (reply (answers.Refused 3)) (now (items .entry)) n r ⌝ }
+    ensures { λ r. ⌜ OfFront (OfBall ball) (cReply (turned-down 3)) (now (items .entry)) n r ⌝ }
 {
     let sphere = sphere_of(ball);
     let answer = sphere_front(items, n, sphere);
@@ -59,7 +58,7 @@ fn sphere_reply(items: &[f64; 512], n: usize, ball: Ball) -> Reply
 
 #[no_mangle]
 pub extern "C" fn jorghipa_sphere_of(section: &[Vertex], ball: Ball) -> Reply
-    ensures { λ r. ⌜ r ≡ reply (sphereAnswer (flattened (now (section .entry))) (sphereOf ball)) ⌝ }
+    ensures { λ r. ⌜ r ≡ cReply (sphereAnswer (flattened (now (section .entry))) (sphereOf ball)) ⌝ }
 {
     let mut items = blank();
     let n = section.len();
@@ -71,7 +70,7 @@ pub extern "C" fn jorghipa_sphere_of(section: &[Vertex], ball: Ball) -> Reply
 }
 
 fn box_reply(items: &[f64; 512], n: usize, bounds: Bounds) -> Reply
-    ensures { λ r. ⌜ OfFront (OfBounds bounds) (reply (answers.Refused 3)) (now (items .entry)) n r ⌝ }
+    ensures { λ r. ⌜ OfFront (OfBounds bounds) (cReply (turned-down 3)) (now (items .entry)) n r ⌝ }
 {
     let bounded = box_of(bounds);
     let answer = box_front(items, n, bounded);
@@ -80,7 +79,7 @@ fn box_reply(items: &[f64; 512], n: usize, bounds: Bounds) -> Reply
 
 #[no_mangle]
 pub extern "C" fn jorghipa_box_of(section: &[Vertex], bounds: Bounds) -> Reply
-    ensures { λ r. ⌜ r ≡ reply (boxAnswer (flattened (now (section .entry))) (boxOf bounds)) ⌝ }
+    ensures { λ r. ⌜ r ≡ cReply (boxAnswer (flattened (now (section .entry))) (boxOf bounds)) ⌝ }
 {
     let mut items = blank();
     let n = section.len();
@@ -92,7 +91,7 @@ pub extern "C" fn jorghipa_box_of(section: &[Vertex], bounds: Bounds) -> Reply
 }
 
 fn cylinder_reply(items: &[f64; 512], n: usize, bar: Bar) -> CylinderReply
-    ensures { λ r. ⌜ OfFront (OfBar bar) (cylinderReply (cylinder-answers.Refused 3)) (now (items .entry)) n r ⌝ }
+    ensures { λ r. ⌜ OfFront (OfBar bar) (cCylinderReply (turned-down 3)) (now (items .entry)) n r ⌝ }
 {
     let cylinder = cylinder_of(bar);
     let answer = cylinder_front(items, n, cylinder);
@@ -101,7 +100,7 @@ fn cylinder_reply(items: &[f64; 512], n: usize, bar: Bar) -> CylinderReply
 
 #[no_mangle]
 pub extern "C" fn jorghipa_cylinder_of(section: &[Vertex], bar: Bar) -> CylinderReply
-    ensures { λ r. ⌜ r ≡ cylinderReply (cylinderAnswer (flattened (now (section .entry))) (cylinderOf bar)) ⌝ }
+    ensures { λ r. ⌜ r ≡ cCylinderReply (cylinderAnswer (flattened (now (section .entry))) (cylinderOf bar)) ⌝ }
 {
     let mut items = blank();
     let n = section.len();

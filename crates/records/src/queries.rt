@@ -1,24 +1,24 @@
 // The queries over vertex records, each beside the function that asks the core on the array's front
 // once they are copied; more than 256 are turned down there. They ask nothing of the caller.
-ghost use mathlib.Core.Path.{_≡_};
-ghost use Rattle.section.specs.Answers.{pointAnswer, sphereAnswer, boxAnswer};
-ghost use Rattle.section.specs.Demand as section-demand;
-ghost use Rattle.walk.specs.Cylinders.{cylinderAnswer};
-ghost use Rattle.walk.specs.Cover.{OfHit, Promised};
+ghost use Rattle.profile.specs.Replies.{Answers};
+ghost use Rattle.section.specs.Answers.{told, pointAnswer, sphereAnswer, boxAnswer};
+ghost use Rattle.section.specs.Demand.{Bounded, BoundedOffAxis};
+ghost use Rattle.cylinders.specs.Cylinders.{told as cylinderTold, cylinderAnswer};
+ghost use Rattle.cylinders.specs.Promised.{Promised};
 ghost use Rattle.records.specs.Flattened.{flattened};
 ghost use Rattle.records.specs.Steps.{OfFront, OfPoint, OfSphere, OfBox, OfCylinder};
 ghost use Rattle.section.specs.declared.shapes.Answer.the-variants as answers;
-ghost use Rattle.walk.specs.declared.shapes.CylinderAnswer.the-variants as cylinder-answers;
+ghost use Rattle.cylinders.specs.declared.shapes.CountedAnswer.the-variants as cylinder-answers;
 use super::copying::blank;
 use super::copying::numbers_of;
 use super::copying::put;
 use arith::Vec3;
-use section::Aabb;
+use bands::Cylinder;
+use cylinders::CountedAnswer;
+use profile::Aabb;
+use profile::Sphere;
+use profile::Vertex;
 use section::Answer;
-use section::Sphere;
-use section::Vertex;
-use walk::Cylinder;
-use walk::CylinderAnswer;
 
 pub fn point_front(items: &[f64; 512], n: usize, point: Vec3) -> Answer
     ensures { λ r. ⌜ OfFront (OfPoint point) (answers.Refused 3) (now (items .entry)) n r ⌝ }
@@ -32,8 +32,7 @@ pub fn point_front(items: &[f64; 512], n: usize, point: Vec3) -> Answer
 }
 
 pub fn signed_distance_of(section: &[Vertex], point: Vec3) -> Answer
-    ensures { λ r. ⌜ (r ≡ pointAnswer (flattened (now (section .entry))) point)
-        × section-demand.OfHit (section-demand.BoundedOffAxis (flattened (now (section .entry)))) r ⌝ }
+    ensures { λ r. ⌜ (let s = flattened (now (section .entry)) in Answers (told r) (pointAnswer s point) (BoundedOffAxis s)) ⌝ }
 {
     let mut items = blank();
     let n = section.len();
@@ -56,8 +55,7 @@ pub fn sphere_front(items: &[f64; 512], n: usize, sphere: Sphere) -> Answer
 }
 
 pub fn query_sphere_of(section: &[Vertex], sphere: Sphere) -> Answer
-    ensures { λ r. ⌜ (r ≡ sphereAnswer (flattened (now (section .entry))) sphere)
-        × section-demand.OfHit (section-demand.BoundedOffAxis (flattened (now (section .entry)))) r ⌝ }
+    ensures { λ r. ⌜ (let s = flattened (now (section .entry)) in Answers (told r) (sphereAnswer s sphere) (BoundedOffAxis s)) ⌝ }
 {
     let mut items = blank();
     let n = section.len();
@@ -80,8 +78,7 @@ pub fn box_front(items: &[f64; 512], n: usize, bounds: Aabb) -> Answer
 }
 
 pub fn aabb_polygon_distance_of(section: &[Vertex], bounds: Aabb) -> Answer
-    ensures { λ r. ⌜ (r ≡ boxAnswer (flattened (now (section .entry))) bounds)
-        × section-demand.OfHit section-demand.Bounded r ⌝ }
+    ensures { λ r. ⌜ Answers (told r) (boxAnswer (flattened (now (section .entry))) bounds) Bounded ⌝ }
 {
     let mut items = blank();
     let n = section.len();
@@ -92,20 +89,20 @@ pub fn aabb_polygon_distance_of(section: &[Vertex], bounds: Aabb) -> Answer
     box_front(&items, n, bounds)
 }
 
-pub fn cylinder_front(items: &[f64; 512], n: usize, cylinder: Cylinder) -> CylinderAnswer
+pub fn cylinder_front(items: &[f64; 512], n: usize, cylinder: Cylinder) -> CountedAnswer
     ensures { λ r. ⌜ OfFront (OfCylinder cylinder) (cylinder-answers.Refused 3) (now (items .entry)) n r ⌝ }
 {
     if n > 256 {
-        return CylinderAnswer::Refused(3);
+        return CountedAnswer::Refused(3);
     }
     let end = numbers_of(n);
     let all = &items[..];
-    walk::query_cylinder(&all[..end], cylinder)
+    cylinders::query_cylinder(&all[..end], cylinder)
 }
 
-pub fn query_cylinder_of(section: &[Vertex], cylinder: Cylinder) -> CylinderAnswer
-    ensures { λ r. ⌜ (r ≡ cylinderAnswer (flattened (now (section .entry))) cylinder)
-        × OfHit (Promised (flattened (now (section .entry))) cylinder) r ⌝ }
+pub fn query_cylinder_of(section: &[Vertex], cylinder: Cylinder) -> CountedAnswer
+    ensures { λ r. ⌜ (let s = flattened (now (section .entry)) in
+        Answers (cylinderTold r) (cylinderAnswer s cylinder) (Promised s cylinder)) ⌝ }
 {
     let mut items = blank();
     let n = section.len();

@@ -1,12 +1,14 @@
 // Bodies and answers as the C interface has them: records of numbers, as C lays them out.
 ghost use mathlib.Core.Path.{_≡_};
+ghost use Rattle.section.specs.Answers.{told};
+ghost use Rattle.cylinders.specs.Cylinders.{told as cylinderTold};
 ghost use Rattle.records.specs.Replies as replies;
 use arith::Vec3;
-use section::Aabb;
+use bands::Cylinder;
+use cylinders::CountedAnswer;
+use profile::Aabb;
+use profile::Sphere;
 use section::Answer;
-use section::Sphere;
-use walk::Cylinder;
-use walk::CylinderAnswer;
 
 #[repr(C)]
 pub struct Place {
@@ -115,7 +117,7 @@ pub fn cylinder_of(bar: Bar) -> Cylinder
 }
 
 pub fn reply_of(answer: Answer) -> Reply
-    ensures { λ r. ⌜ r ≡ replies.reply answer ⌝ }
+    ensures { λ r. ⌜ r ≡ replies.cReply (told answer) ⌝ }
 {
     match answer {
         Answer::Hit(h) => {
@@ -136,11 +138,11 @@ pub fn reply_of(answer: Answer) -> Reply
     }
 }
 
-pub fn cylinder_reply_of(answer: CylinderAnswer) -> CylinderReply
-    ensures { λ r. ⌜ r ≡ replies.cylinderReply answer ⌝ }
+pub fn cylinder_reply_of(answer: CountedAnswer) -> CylinderReply
+    ensures { λ r. ⌜ r ≡ replies.cCylinderReply (cylinderTold answer) ⌝ }
 {
     match answer {
-        CylinderAnswer::Hit(h) => {
+        CountedAnswer::Hit(h) => {
             let hit = h.hit;
             let at = hit.witness;
             CylinderReply {
@@ -153,7 +155,7 @@ pub fn cylinder_reply_of(answer: CylinderAnswer) -> CylinderReply
                 cut: h.cut,
             }
         }
-        CylinderAnswer::Refused(number) => CylinderReply {
+        CountedAnswer::Refused(number) => CylinderReply {
             distance: 0.0,
             witness_z: 0.0,
             witness_radius: 0.0,

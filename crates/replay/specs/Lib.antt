@@ -1,9 +1,5 @@
+-- What the contracts cite.
 pub mod Bits
-pub mod Bodies
-pub mod Builders
-pub mod Line
-pub mod Lists
-pub mod Queries
+pub mod Lines
 pub mod Replies
-pub mod Text
-pub mod Verdicts
+pub mod Rows

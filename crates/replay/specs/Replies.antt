@@ -1,31 +1,15 @@
--- The reply to a line whose last field ends it, and to the answer of a query or a verdict.
+-- Replies.
 use Prim.Native.Nat.{ℕ}
-use mathlib.Core.Bool.{true, false, cond}
-use mathlib.Core.List.{List}
-use lib.Dec.{eqb}
-use lib.ListN.{length}
-use Rattle.section.specs.declared.shapes.Answer.{Answer}
-use Rattle.section.specs.declared.shapes.Answer.the-variants as answer
-use Rattle.walk.specs.declared.shapes.CylinderAnswer.{CylinderAnswer}
-use Rattle.walk.specs.declared.shapes.CylinderAnswer.the-variants as cylinder
-use Rattle.walk.specs.declared.shapes.Verdict.{Verdict}
-use Rattle.walk.specs.declared.shapes.Verdict.the-variants as verdict
-use Rattle.replay.specs.declared.replies.Reply.{Reply}
-use Rattle.replay.specs.declared.replies.Reply.the-variants as reply
+use Rattle.replay.specs.declared.ask.Reply.{Reply}
+use Rattle.replay.specs.declared.ask.Reply.the-variants.{Number, Hit, Walked, Verdict, Kept, Refused, Damaged, Malformed}
 
--- next is the index past the last field
-abbrev pub ending : List ℕ → ℕ → Reply → Reply
-ending s next r = cond (eqb next (length s)) r reply.Malformed
-
-abbrev pub queryReply : Answer → Reply
-queryReply (answer.Hit h) = reply.Hit h
-queryReply (answer.Refused n) = reply.Refused n
-
-abbrev pub cylinderReply : CylinderAnswer → Reply
-cylinderReply (cylinder.Hit h) = reply.Walked h
-cylinderReply (cylinder.Refused n) = reply.Refused n
-
-abbrev pub verdictReply : Verdict → Reply
-verdictReply verdict.Clear = reply.Verdict false
-verdictReply verdict.Collision = reply.Verdict true
-verdictReply (verdict.Refused n) = reply.Refused n
+-- how many numbers of a builder's space a reply speaks of
+abbrev pub kept : Reply → ℕ
+kept (Kept n) = n
+kept (Number x) = 0
+kept (Hit d z r) = 0
+kept (Walked d z r boxes waiting cut) = 0
+kept (Verdict collision) = 0
+kept (Refused number) = 0
+kept Damaged = 0
+kept Malformed = 0

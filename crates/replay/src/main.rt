@@ -20,158 +20,149 @@
 // turned down is `refused` and the number.
 ghost use Prim.Native.Nat.{_≤_};
 ghost use lib.ListN.{length};
+ghost use Rattle.replay.specs.Lines.{Within};
+ghost use Rattle.replay.specs.Replies.{kept};
 
+mod ask;
 mod bits;
-mod bodies;
-mod builders;
 mod line;
-mod lists;
-mod queries;
-mod replies;
-mod text;
-mod verdicts;
+mod parse;
+mod table;
 
+use ask::BLANK;
+use ask::Reply;
+use ask::ask;
 use bits::pattern;
-use builders::BLANK;
 use libc::STDOUT_FILENO;
-use line::line_end;
-use line::read_more;
-use line::to_front;
-use replies::Reply;
-use section::CollisionHit;
-use walk::CylinderHit;
+use line::Held;
+use line::next_line;
+use parse::parse;
 
-// What is read and not yet answered, the bytes of the buffer from start up to end; and whether the
-// input has ended.
-struct Held {
-    start: usize,
-    end: usize,
-    ended: bool,
+fn print_text(text: &[u8]) {
+    io::write_all(STDOUT_FILENO, text);
 }
 
-fn reply_to(line: &[u8], space: &mut [f64]) -> Reply {
-    if line.len() == 0 {
-        return Reply::Malformed;
+fn print_number(x: f64) {
+    io::print_hex(STDOUT_FILENO, pattern(x), 16);
+}
+
+// A number behind a space.
+fn print_next(x: f64) {
+    print_text(b" ");
+    print_number(x);
+}
+
+fn print_count(n: u64) {
+    io::print_decimal(STDOUT_FILENO, n);
+}
+
+fn print_next_count(n: usize) {
+    print_text(b" ");
+    print_count(n as u64);
+}
+
+fn print_flag(flag: bool) {
+    if flag {
+        print_text(b"1");
+    } else {
+        print_text(b"0");
     }
-    match line[0] {
-        b'r' => queries::sqrt(line),
-        b'h' => queries::hypot(line),
-        b'p' => queries::point(line),
-        b's' => queries::sphere(line),
-        b'b' => queries::aabb(line),
-        b'c' => queries::convex(line),
-        b'y' => queries::cylinder(line),
-        b'v' => verdicts::verdict(line),
-        b'S' => builders::section(line, space),
-        b'P' => builders::polygon(line, space),
-        _ => Reply::Malformed,
-    }
 }
 
-fn print_number(x: f64) -> bool {
-    io::print_hex(STDOUT_FILENO, pattern(x), 16)
+fn print_hit(distance: f64, z: f64, r: f64) {
+    print_number(distance);
+    print_next(z);
+    print_next(r);
 }
 
-fn print_next(x: f64) -> bool {
-    io::write_all(STDOUT_FILENO, b" ");
-    print_number(x)
-}
-
-fn print_hit(hit: CollisionHit) -> bool {
-    print_number(hit.distance);
-    print_next(hit.witness.z);
-    print_next(hit.witness.r)
-}
-
-fn print_count(n: usize) -> bool {
-    io::write_all(STDOUT_FILENO, b" ");
-    io::print_decimal(STDOUT_FILENO, n as u64)
-}
-
-fn print_walked(walked: CylinderHit) -> bool {
-    print_hit(walked.hit);
-    print_count(walked.boxes);
-    print_count(walked.waiting);
-    print_count(if walked.cut { 1 } else { 0 })
-}
-
-fn print_verdict(collision: bool) -> bool {
-    if collision {
-        return io::write_all(STDOUT_FILENO, b"1");
-    }
-    io::write_all(STDOUT_FILENO, b"0")
-}
-
-fn print_refused(number: u32) -> bool {
-    io::write_all(STDOUT_FILENO, b"refused ");
-    io::print_decimal(STDOUT_FILENO, number as u64)
+fn print_walk(boxes: usize, waiting: usize, cut: bool) {
+    print_next_count(boxes);
+    print_next_count(waiting);
+    print_text(b" ");
+    print_flag(cut);
 }
 
 // How many numbers a builder keeps, and these.
-fn print_kept(space: &[f64], n: usize) -> bool {
-    let mut printed = io::print_decimal(STDOUT_FILENO, n as u64);
+fn print_kept(kept: &[f64]) {
+    print_count(kept.len() as u64);
     let mut i = 0;
-    while i < n {
-        if i < space.len() {
-            printed = print_next(space[i]);
-        }
+    while i < kept.len() {
+        print_next(kept[i]);
         i += 1;
     }
-    printed
 }
 
-fn print(reply: Reply, space: &[f64]) -> bool {
+fn print_refused(number: u32) {
+    print_text(b"refused ");
+    print_count(number as u64);
+}
+
+fn print(reply: Reply, kept: &[f64]) {
     match reply {
         Reply::Number(x) => print_number(x),
-        Reply::Hit(hit) => print_hit(hit),
-        Reply::Walked(walked) => print_walked(walked),
-        Reply::Verdict(collision) => print_verdict(collision),
-        Reply::Kept(n) => print_kept(space, n),
+        Reply::Hit(distance, z, r) => print_hit(distance, z, r),
+        Reply::Walked(distance, z, r, boxes, waiting, cut) => {
+            print_hit(distance, z, r);
+            print_walk(boxes, waiting, cut);
+        }
+        Reply::Verdict(collision) => print_flag(collision),
+        Reply::Kept(_) => print_kept(kept),
         Reply::Refused(number) => print_refused(number),
-        Reply::Damaged => io::write_all(STDOUT_FILENO, b"damaged"),
-        Reply::Malformed => io::write_all(STDOUT_FILENO, b"malformed"),
+        Reply::Damaged => print_text(b"damaged"),
+        Reply::Malformed => print_text(b"malformed"),
     }
 }
 
-fn reply(line: &[u8]) -> bool {
+// How many numbers of its space a builder keeps.
+fn kept_by(reply: Reply) -> usize
+    ensures { λ r. ⌜ r ≤ kept reply ⌝ }
+{
+    match reply {
+        Reply::Kept(n) => n,
+        _ => 0,
+    }
+}
+
+fn reply_to(line: &[u8], space: &mut [f64]) -> Reply
+    requires { ⌜ 1024 ≤ length (now space) ⌝ }
+    ensures { λ r. ⌜ kept r ≤ length (now (space .exit)) ⌝ }
+{
+    let mut first = [0.0; 1024];
+    let mut second = [0.0; 1024];
+    let mut numbers = [0.0; 16];
+    let query = parse(line, &mut first, &mut second, &mut numbers);
+    let n = query.n;
+    let m = query.m;
+    let k = query.k;
+    let kind = query.kind;
+    if query.whole {
+        let s = &first[0..n];
+        let t = &second[0..m];
+        return ask(kind, s, t, &numbers, &mut space[0..k]);
+    }
+    Reply::Malformed
+}
+
+fn reply(line: &[u8]) {
     let mut space = [BLANK; 1024];
     let reply = reply_to(line, &mut space);
-    print(reply, &space);
-    io::write_all(STDOUT_FILENO, b"\n")
+    let n = kept_by(reply);
+    print(reply, &space[0..n]);
+    print_text(b"\n");
 }
 
-// One turn: answers the next line, or reads more where none is whole. What the input ends with, or
-// what fills the buffer, is the last line.
+// One turn: answers the next line, if one is found.
 fn turn(buf: &mut [u8], start: usize, end: usize) -> Held
     requires { ⌜ (start ≤ end) × (end ≤ length (now buf)) ⌝ }
-    ensures { λ r. ⌜ (r .start ≤ r .end) × (r .end ≤ length (now (buf .exit))) ⌝ }
+    ensures { λ r. ⌜ Within r (length (now (buf .exit))) ⌝ }
 {
-    let stop = line_end(buf, start, end);
-    if stop < end {
-        reply(&buf[start..stop]);
-        return Held {
-            start: stop + 1,
-            end,
-            ended: false,
-        };
+    let held = next_line(buf, start, end);
+    let from = held.from;
+    let to = held.to;
+    if held.found {
+        reply(&buf[from..to]);
     }
-    let kept = to_front(buf, start, end);
-    let now = read_more(buf, kept);
-    if kept < now {
-        return Held {
-            start: 0,
-            end: now,
-            ended: false,
-        };
-    }
-    if 0 < kept {
-        reply(&buf[0..kept]);
-    }
-    Held {
-        start: 0,
-        end: 0,
-        ended: true,
-    }
+    held
 }
 
 // A proved loop has to end, and nothing says that the input does: it counts its turns down from a

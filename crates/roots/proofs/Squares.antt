@@ -1,4 +1,4 @@
--- Squares order as their roots do, also in steps of u. Assumes nothing.
+-- Squares order as their roots do, also in steps of u.
 use Prim.Native.Nat.{_*_, _<_, _^_, zero-le, ℕ, _≤_}
 use mathlib.Core.Logic.{inl, inr}
 use mathlib.Core.Path.{ap, subst, _∙_, _≡_}
@@ -7,7 +7,7 @@ use native.Mathlib.Nat.{mul-le-mul-right, mul-lt-mul-of-pos-right, mul-mul-mul-c
 use native.Mathlib.Nat.{pow-zero}
 use native.Mathlib.Omega.{arith}
 use Rattle.roots.proofs.Numbers.{decide}
-use Rattle.roots.specs.Core.{sq}
+use Rattle.roots.specs.Steps.{sq}
 
 pub sq-lt : (a b : ℕ) → sq a < sq b → a < b
 sq-lt a b h = elim (decide b a) [ inl l ↦ absurd (not-le-of-lt h (mul-le-mul l l)) | inr l ↦ l ]

@@ -1,5 +1,6 @@
 // A guess at a root, in f64. Nothing is claimed of it but its range: whoever uses it tests it.
-ghost use Prim.Native.Nat.{_^_, _≤_, _<_};
+ghost use Prim.Native.Nat.{_^_, _<_};
+ghost use Rattle.roots.specs.Steps.{Significand};
 
 // About the root of n, from n and its bits, by three steps of Newton's iteration for 1 / root.
 fn guess(n: f64, bits: u64) -> f64
@@ -17,7 +18,7 @@ fn guess(n: f64, bits: u64) -> f64
 // The significand of a guess at the root of n.
 pub fn guessed(n: f64, bits: u64) -> u64
     requires { ⌜ bits < 2 ^ 63 ⌝ }
-    ensures { λ r. ⌜ (2 ^ 52 ≤ r) × (r < 2 ^ 53) ⌝ }
+    ensures { λ r. ⌜ Significand r ⌝ }
 {
     let g = guess(n, bits);
     if g > 0.0 {

@@ -3,7 +3,7 @@
 ghost use mathlib.Core.Path.{_≡_};
 ghost use Prim.Native.Nat.{_+_, _-_, _*_, _/_, _^_, _≤_, _<_};
 ghost use lib.Ieee.{binary64};
-ghost use Rattle.roots.specs.Core.{NearestHalf, RoundsUp, RoundsDown, HypotIs, Scaled, Sticky};
+ghost use Rattle.roots.specs.Steps.{NearestHalf, Rounded, HypotIs, Operands, Picks, Scaled, Sticky};
 ghost use Rattle.roots.specs.Roots as roots;
 use super::guess::guessed;
 use super::midpoint::bisect;
@@ -40,9 +40,8 @@ fn sticky(m: u64, d: u64) -> u64
 // (2 * ms)^2.
 fn hypot_significand(mb: u64, ms: u64, d: u64, t: u64) -> u64
     requires { ⌜ (0 < mb) × (mb < 2 ^ 53) × (ms < 2 ^ 53) × (d < 27) × (ms ≤ mb * 2 ^ d) × (t < 2) ⌝ }
-    ensures { λ r. ⌜ (mb ≤ r) × (r ≤ mb + 2 ^ 52)
-        × RoundsUp ((2 * mb) * (2 * mb) + (2 * ms) * (2 * ms) / 2 ^ (2 * d)) t (r - 1)
-        × RoundsDown ((2 * mb) * (2 * mb) + (2 * ms) * (2 * ms) / 2 ^ (2 * d)) t r ⌝ }
+    ensures { λ r. ⌜ (let z = (2 * mb) * (2 * mb) + (2 * ms) * (2 * ms) / 2 ^ (2 * d) in
+        Rounded z t (mb - 1) (mb + 2 ^ 52) r) ⌝ }
 {
     let z = sum_of_squares(2 * mb, 2 * ms, d);
     bisect(z, t, mb - 1, mb + 0x10_0000_0000_0000)
@@ -63,7 +62,7 @@ fn nearest_half(a: u64, b: u64, d: u64, g: u64) -> u64
 
 // The bits of the hypotenuse of two finite values, by bisection.
 fn hypot_searched(big: u64, small: u64) -> u64
-    requires { ⌜ (small ≤ big) × (big < 2047 * 2 ^ 52) ⌝ }
+    requires { ⌜ Operands 0 2047 big small ⌝ }
     ensures { λ r. ⌜ HypotIs big small r ⌝ }
 {
     let eb = exponent(big);
@@ -93,7 +92,7 @@ fn at_least(a: u64, b: u64) -> u64
 // m, or 2 * m where the root lies in big's own binade
 fn scaled(m: u64, top: u64) -> u64
     requires { ⌜ m < 2 ^ 53 ⌝ }
-    ensures { λ r. ⌜ Scaled m top r × (r < 2 ^ 54) ⌝ }
+    ensures { λ r. ⌜ Scaled m top r ⌝ }
 {
     if top == 1 { m } else { 2 * m }
 }
@@ -101,7 +100,7 @@ fn scaled(m: u64, top: u64) -> u64
 // The same of two normal values, by a guess that is tested, n being about the sum of their squares;
 // 0: not decided.
 fn hypot_tested(n: f64, big: u64, small: u64) -> u64
-    requires { ⌜ (small ≤ big) × (2 ^ 52 ≤ small) × (big < 2000 * 2 ^ 52) ⌝ }
+    requires { ⌜ Operands (2 ^ 52) 2000 big small ⌝ }
     ensures { λ r. ⌜ (0 < r → HypotIs big small r) ⌝ }
 {
     let eb = big / T52;
@@ -126,13 +125,13 @@ fn hypot_tested(n: f64, big: u64, small: u64) -> u64
 }
 
 fn larger(a: u64, b: u64) -> u64
-    ensures { λ r. ⌜ (a < b → r ≡ b) × (b ≤ a → r ≡ a) ⌝ }
+    ensures { λ r. ⌜ Picks a b b a r ⌝ }
 {
     if a < b { b } else { a }
 }
 
 fn smaller(a: u64, b: u64) -> u64
-    ensures { λ r. ⌜ (a < b → r ≡ a) × (b ≤ a → r ≡ b) ⌝ }
+    ensures { λ r. ⌜ Picks a b a b r ⌝ }
 {
     if a < b { a } else { b }
 }

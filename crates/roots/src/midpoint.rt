@@ -1,8 +1,8 @@
 // Which candidate is nearest to a root: whole squares are compared at the midpoints of two
 // candidates.
-ghost use mathlib.Core.Path.{_≡_};
-ghost use Prim.Native.Nat.{_+_, _-_, _*_, _^_, _≤_, _<_};
-ghost use Rattle.roots.specs.Core.{NearestHalfBelow, RoundsUpAt, RoundsDownAt, RoundsUp, RoundsDown};
+ghost use Prim.Native.Nat.{_+_, _^_, _≤_, _<_};
+ghost use Rattle.roots.specs.Steps.{whole, NearestOfThree, Tells, RoundsUpAt, RoundsDownAt};
+ghost use Rattle.roots.specs.Steps.{RoundsUp, RoundsDown, Between, Rounded};
 use super::wide::Wide;
 use super::wide::square;
 
@@ -10,7 +10,7 @@ use super::wide::square;
 // from 0 up to, and not with, 1; 3: not decided.
 pub fn nearest_of_three(z: Wide, k: u64) -> u64
     requires { ⌜ (z .hi < 2 ^ 56) × (z .lo < 2 ^ 56) × (0 < k) × (k < 2 ^ 54) ⌝ }
-    ensures { λ r. ⌜ (r < 4) × (r < 3 → NearestHalfBelow (z .hi * 2 ^ 56 + z .lo) (k + r)) ⌝ }
+    ensures { λ r. ⌜ NearestOfThree (whole z) k r ⌝ }
 {
     let s = square(2 * k);
     let h = z.hi + 4;
@@ -49,8 +49,7 @@ pub fn nearest_of_three(z: Wide, k: u64) -> u64
 // 1: the root lies above the midpoint m / 2, or at it with k odd; 0: not.
 fn rounds_up_at(z: Wide, t: u64, k: u64, m: u64) -> u64
     requires { ⌜ (z .lo < 2 ^ 56) × (t < 2) × (m < 2 ^ 55) ⌝ }
-    ensures { λ r. ⌜ (r ≡ 1 → RoundsUpAt (z .hi * 2 ^ 56 + z .lo) t k m)
-        × (r ≡ 0 → RoundsDownAt (z .hi * 2 ^ 56 + z .lo) t k m) × (r < 2) ⌝ }
+    ensures { λ r. ⌜ Tells (RoundsUpAt (whole z) t k m) (RoundsDownAt (whole z) t k m) r ⌝ }
 {
     let s = square(m);
     if s.hi < z.hi {
@@ -74,8 +73,7 @@ fn rounds_up_at(z: Wide, t: u64, k: u64, m: u64) -> u64
 // 1: the root lies above the midpoint of candidate k and the next, or at it with k odd; 0: not.
 fn rounds_up(z: Wide, t: u64, k: u64) -> u64
     requires { ⌜ (z .lo < 2 ^ 56) × (t < 2) × (k < 2 ^ 53 + 2 ^ 52) ⌝ }
-    ensures { λ r. ⌜ (r ≡ 1 → RoundsUp (z .hi * 2 ^ 56 + z .lo) t k)
-        × (r ≡ 0 → RoundsDown (z .hi * 2 ^ 56 + z .lo) t k) × (r < 2) ⌝ }
+    ensures { λ r. ⌜ Tells (RoundsUp (whole z) t k) (RoundsDown (whole z) t k) r ⌝ }
 {
     if k < 0x20_0000_0000_0000 {
         rounds_up_at(z, t, k, 2 * k + 1)
@@ -86,10 +84,8 @@ fn rounds_up(z: Wide, t: u64, k: u64) -> u64
 
 // The candidate above lo0 and up to hi0 that the root rounds to, by bisection.
 pub fn bisect(z: Wide, t: u64, lo0: u64, hi0: u64) -> u64
-    requires { ⌜ (z .lo < 2 ^ 56) × (t < 2) × (lo0 < hi0) × (hi0 ≤ 2 ^ 53 + 2 ^ 52) ⌝ }
-    requires { ⌜ RoundsUp (z .hi * 2 ^ 56 + z .lo) t lo0 × RoundsDown (z .hi * 2 ^ 56 + z .lo) t hi0 ⌝ }
-    ensures { λ r. ⌜ (lo0 < r) × (r ≤ hi0) × RoundsUp (z .hi * 2 ^ 56 + z .lo) t (r - 1)
-        × RoundsDown (z .hi * 2 ^ 56 + z .lo) t r ⌝ }
+    requires { ⌜ (z .lo < 2 ^ 56) × (t < 2) × (hi0 ≤ 2 ^ 53 + 2 ^ 52) × Between (whole z) t lo0 hi0 ⌝ }
+    ensures { λ r. ⌜ Rounded (whole z) t lo0 hi0 r ⌝ }
 {
     let mut lo = lo0;
     let mut hi = hi0;

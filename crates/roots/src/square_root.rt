@@ -3,7 +3,7 @@
 ghost use mathlib.Core.Path.{_≡_};
 ghost use Prim.Native.Nat.{_+_, _*_, _/_, _%_, _^_, _≤_, _<_};
 ghost use lib.Ieee.{binary64};
-ghost use Rattle.roots.specs.Core.{NearestHalf, Radicand, SqrtIs, SqrtOf};
+ghost use Rattle.roots.specs.Steps.{Significand, NearestHalf, Normalized, Subnormal, Radicand, SqrtIs, SqrtOf};
 ghost use Rattle.roots.specs.Roots as roots;
 use super::guess::guessed;
 use super::midpoint::bisect;
@@ -18,7 +18,7 @@ const INF: u64 = 0x7ff0_0000_0000_0000;
 
 // m, or 2 * m at an odd exponent
 fn radicand(m: u64, e: u64) -> u64
-    requires { ⌜ (2 ^ 52 ≤ m) × (m < 2 ^ 53) ⌝ }
+    requires { ⌜ Significand m ⌝ }
     ensures { λ r. ⌜ Radicand m e r ⌝ }
 {
     if e % 2 == 1 { 2 * m } else { m }
@@ -35,7 +35,7 @@ fn sqrt_significand(m: u64) -> u64
 
 // The bits of the root of m * 2^(e - 1024) smallest values, by bisection.
 fn sqrt_searched(m: u64, e: u64) -> u64
-    requires { ⌜ (2 ^ 52 ≤ m) × (m < 2 ^ 53) × (2 ≤ e) × (e < 4092) ⌝ }
+    requires { ⌜ Normalized m e ⌝ }
     ensures { λ r. ⌜ SqrtIs m e r ⌝ }
 {
     let z = radicand(m, e);
@@ -62,7 +62,7 @@ fn sqrt_tested(x: f64, b: u64) -> u64
 
 // The bits of the root of b smallest values.
 fn sqrt_subnormal(b: u64) -> u64
-    requires { ⌜ (0 < b) × (b < 2 ^ 52) ⌝ }
+    requires { ⌜ Subnormal b ⌝ }
     ensures { λ r. ⌜ SqrtOf b r ⌝ }
 {
     let mut m = b;

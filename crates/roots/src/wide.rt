@@ -1,6 +1,6 @@
 // Numbers of up to 112 bits in two limbs of 56: squares, and sums of them.
-ghost use mathlib.Core.Path.{_≡_};
 ghost use Prim.Native.Nat.{_+_, _*_, _/_, _^_, _≤_, _<_};
+ghost use Rattle.roots.specs.Steps.{Limbs, whole};
 
 // hi * 2^56 + lo
 pub struct Wide {
@@ -11,7 +11,7 @@ pub struct Wide {
 // c * c
 pub fn square(c: u64) -> Wide
     requires { ⌜ c < 2 ^ 55 ⌝ }
-    ensures { λ r. ⌜ (r .hi * 2 ^ 56 + r .lo ≡ c * c) × (r .lo < 2 ^ 56) × (r .hi < 2 ^ 54) ⌝ }
+    ensures { λ r. ⌜ Limbs (c * c) 54 56 r ⌝ }
 {
     let c1 = c / 0x1000_0000;
     let c0 = c % 0x1000_0000;
@@ -27,8 +27,7 @@ pub fn square(c: u64) -> Wide
 // q / 2^sh, rounded down, with a carry left in lo
 fn shifted(q: Wide, sh: u64) -> Wide
     requires { ⌜ (q .hi < 2 ^ 54) × (q .lo < 2 ^ 56) × (sh ≤ 56) ⌝ }
-    ensures { λ r. ⌜ (r .hi * 2 ^ 56 + r .lo ≡ (q .hi * 2 ^ 56 + q .lo) / 2 ^ sh) × (r .lo < 2 ^ 57)
-        × (r .hi < 2 ^ 54) ⌝ }
+    ensures { λ r. ⌜ Limbs (whole q / 2 ^ sh) 54 57 r ⌝ }
 {
     let high = q.hi >> sh;
     let mid = (q.hi << (56 - sh)) % 0x100_0000_0000_0000;
@@ -39,8 +38,7 @@ fn shifted(q: Wide, sh: u64) -> Wide
 
 fn plus(p: Wide, q: Wide) -> Wide
     requires { ⌜ (p .hi < 2 ^ 54) × (p .lo < 2 ^ 56) × (q .hi < 2 ^ 54) × (q .lo < 2 ^ 57) ⌝ }
-    ensures { λ r. ⌜ (r .hi * 2 ^ 56 + r .lo ≡ (p .hi * 2 ^ 56 + p .lo) + (q .hi * 2 ^ 56 + q .lo))
-        × (r .lo < 2 ^ 56) × (r .hi < 2 ^ 56) ⌝ }
+    ensures { λ r. ⌜ Limbs (whole p + whole q) 56 56 r ⌝ }
 {
     let l = p.lo + q.lo;
     let h = p.hi + q.hi + l / 0x100_0000_0000_0000;
@@ -53,8 +51,7 @@ fn plus(p: Wide, q: Wide) -> Wide
 // a * a + b * b / 4^d, rounded down
 pub fn sum_of_squares(a: u64, b: u64, d: u64) -> Wide
     requires { ⌜ (a < 2 ^ 54) × (b < 2 ^ 54) × (d < 27) ⌝ }
-    ensures { λ r. ⌜ (r .hi * 2 ^ 56 + r .lo ≡ a * a + b * b / 2 ^ (2 * d)) × (r .lo < 2 ^ 56)
-        × (r .hi < 2 ^ 56) ⌝ }
+    ensures { λ r. ⌜ Limbs (a * a + b * b / 2 ^ (2 * d)) 56 56 r ⌝ }
 {
     let p = square(a);
     let q = square(b);
@@ -65,7 +62,7 @@ pub fn sum_of_squares(a: u64, b: u64, d: u64) -> Wide
 // m * 2^54
 pub fn widened(m: u64) -> Wide
     requires { ⌜ m < 2 ^ 54 ⌝ }
-    ensures { λ r. ⌜ (r .hi * 2 ^ 56 + r .lo ≡ m * 2 ^ 54) × (r .lo < 2 ^ 56) × (r .hi < 2 ^ 56) ⌝ }
+    ensures { λ r. ⌜ Limbs (m * 2 ^ 54) 56 56 r ⌝ }
 {
     Wide {
         hi: m / 4,

@@ -1,7 +1,3 @@
--- Laws of tests that the functions' proofs share, and demand 1 over the definitions.
-pub mod Flags
-pub mod Overlap
-pub mod Outside
-pub mod Nearest
-pub mod Answered
+-- Demand 1 over the definitions, and that no distance is a NaN.
+pub mod Numbers
 pub mod Demand

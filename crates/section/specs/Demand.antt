@@ -1,5 +1,5 @@
 -- Demand 1 of every query that is answered: the distance is never NaN, infinite only for a point or a sphere beside a section nowhere
--- over 1e-9 from the axis, and the witness is finite. Assumes nothing.
+-- over 1e-9 from the axis, and the witness is finite.
 use Prim.Native.Nat.{ℕ}
 use mathlib.Core.Path.{_≡_}
 use mathlib.Core.Bool.{Bool, false, not}
@@ -11,8 +11,6 @@ use Rattle.arith.specs.F64.{_≺_, _≼_, ∞, e-9}
 use Rattle.arith.specs.Num.{abs, isFinite}
 use Rattle.profile.specs.Vertices.{hit, count, vertexAt, any}
 use Rattle.profile.specs.declared.shapes.CollisionHit.{CollisionHit}
-use Rattle.section.specs.declared.shapes.Answer.{Answer}
-use Rattle.section.specs.declared.shapes.Answer.the-variants.{Hit, Refused}
 
 -- finite, and at most 2 ^ n in magnitude
 pub record UpTo (n : ℕ) (x : Float) : Type 0 where
@@ -37,8 +35,3 @@ pub record BoundedOffAxis (s : List Float) (h : CollisionHit) : Type 0 where
   pub infinite : T (not (offAxis s)) → h ≡ hit ∞ (vertexAt s 0)
   pub z : UpTo 25 (h .witness .z)
   pub r : UpTo 25 (h .witness .r)
-
--- a hit has it; a refusal owes nothing
-abbrev pub OfHit : (CollisionHit → Type 0) → Answer → Type 0
-OfHit P (Hit h) = P h
-OfHit P (Refused n) = Unit {0}

@@ -1,8 +1,3 @@
--- Document 01's section geometry, in its order: segments and the sign, boxes, other bodies, and the answers. Demand is what every
--- accepted query is shown to give.
-pub mod Segments
-pub mod Points
-pub mod Boxes
-pub mod Convex
+-- What the queries answer, and what every accepted query is shown to give.
 pub mod Answers
 pub mod Demand

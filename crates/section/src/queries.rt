@@ -1,16 +1,16 @@
 // The queries: each gives a hit, or the number under which it is turned down. They ask nothing of
 // the caller.
-ghost use mathlib.Core.Path.{_≡_};
-ghost use Rattle.section.specs.Answers.{pointAnswer, sphereAnswer, boxAnswer, convexAnswer};
-ghost use Rattle.section.specs.Boxes.{aabb};
-ghost use Rattle.section.specs.Demand.{OfHit, Bounded, BoundedOffAxis};
-use super::aabb::box_distance;
-use super::convex::convex_distance;
-use super::points::meridian;
-use super::points::signed_distance_2d;
-use super::points::sphere_distance;
+ghost use Rattle.profile.specs.Replies.{Answers};
+ghost use Rattle.boxes.specs.Boxes.{aabb};
+ghost use Rattle.section.specs.Answers.{told, pointAnswer, sphereAnswer, boxAnswer, convexAnswer};
+ghost use Rattle.section.specs.Demand.{Bounded, BoundedOffAxis};
 use super::shapes::Answer;
 use arith::Vec3;
+use boxes::box_distance;
+use convex::convex_distance;
+use points::meridian;
+use points::signed_distance_2d;
+use points::sphere_distance;
 use profile::Aabb;
 use profile::Sphere;
 use profile::box_refusal;
@@ -19,7 +19,7 @@ use profile::point_refusal;
 use profile::sphere_refusal;
 
 pub fn signed_distance(section: &[f64], point: Vec3) -> Answer
-    ensures { λ r. ⌜ (r ≡ pointAnswer (now (section .entry)) point) × OfHit (BoundedOffAxis (now (section .entry))) r ⌝ }
+    ensures { λ r. ⌜ (let s = now (section .entry) in Answers (told r) (pointAnswer s point) (BoundedOffAxis s)) ⌝ }
 {
     let number = point_refusal(section, point);
     if number != 0 {
@@ -29,9 +29,10 @@ pub fn signed_distance(section: &[f64], point: Vec3) -> Answer
 }
 
 pub fn query_sphere(section: &[f64], sphere: Sphere) -> Answer
-    ensures { λ r. ⌜ (r ≡ sphereAnswer (now (section .entry)) sphere) × OfHit (BoundedOffAxis (now (section .entry))) r ⌝ }
+    ensures { λ r. ⌜ (let s = now (section .entry) in Answers (told r) (sphereAnswer s sphere) (BoundedOffAxis s)) ⌝ }
 {
-    let number = sphere_refusal(section, sphere);
+    let none = [0.0; 0];
+    let number = sphere_refusal(section, sphere, &none);
     if number != 0 {
         return Answer::Refused(number);
     }
@@ -39,10 +40,11 @@ pub fn query_sphere(section: &[f64], sphere: Sphere) -> Answer
 }
 
 pub fn aabb_polygon_distance(z0: f64, z1: f64, r0: f64, r1: f64, polygon: &[f64]) -> Answer
-    ensures { λ r. ⌜ (r ≡ boxAnswer (now (polygon .entry)) (aabb z0 z1 r0 r1)) × OfHit Bounded r ⌝ }
+    ensures { λ r. ⌜ Answers (told r) (boxAnswer (now (polygon .entry)) (aabb z0 z1 r0 r1)) Bounded ⌝ }
 {
     let x = Aabb { z0, z1, r0, r1 };
-    let number = box_refusal(polygon, x);
+    let none = [0.0; 0];
+    let number = box_refusal(polygon, x, &none);
     if number != 0 {
         return Answer::Refused(number);
     }
@@ -50,9 +52,10 @@ pub fn aabb_polygon_distance(z0: f64, z1: f64, r0: f64, r1: f64, polygon: &[f64]
 }
 
 pub fn convex_polygon_distance(convex: &[f64], polygon: &[f64]) -> Answer
-    ensures { λ r. ⌜ (r ≡ convexAnswer (now (convex .entry)) (now (polygon .entry))) × OfHit Bounded r ⌝ }
+    ensures { λ r. ⌜ Answers (told r) (convexAnswer (now (convex .entry)) (now (polygon .entry))) Bounded ⌝ }
 {
-    let number = convex_refusal(convex, polygon);
+    let none = [0.0; 0];
+    let number = convex_refusal(convex, polygon, &none);
     if number != 0 {
         return Answer::Refused(number);
     }

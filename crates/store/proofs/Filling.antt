@@ -1,11 +1,11 @@
--- A lent array that is filled from its front on, or a refusal. Assumes nothing.
+-- A lent array that is filled from its front on, or a refusal.
 use Prim.Native.Nat.{ℕ, _≤_}
 use mathlib.Core.List.{List}
 use mathlib.Core.Path.{_≡_, sym, _∙_}
 use native.Mathlib.Omega.{arith}
 use lib.ListN.{take}
 use Rattle.store.specs.Store.{andThen}
-use Rattle.store.specs.Promises.{Fills}
+use Rattle.store.specs.Steps.{Fills}
 use Rattle.store.specs.declared.answers.StoreAnswer.{StoreAnswer}
 use Rattle.store.specs.declared.answers.StoreAnswer.the-variants.{Accepted, Refused}
 use Rattle.store.specs.declared.answers.Filled.{Filled}
@@ -24,7 +24,7 @@ module _ {A : Type 0} {a : StoreAnswer} {xs after : List A} where
   pub fills-front : {m : ℕ} → a ≡ Accepted → take m after ≡ xs → m ≤ 512 → Fills a xs (Front m) after
   fills-front good front small =
       record {
-        accepted = λ n e. rw (← same-front e) (good, front, small);
+        accepted = λ n e. rw (← same-front e) (record { good = good; front = front; small = small });
         refused = λ n k e. absurd (never e);
       }
 

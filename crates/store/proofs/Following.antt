@@ -1,12 +1,12 @@
--- Following the chain one record a turn: what the array of marks says is what the definition's list of passed records
--- says. Assumes nothing.
-use Prim.Native.Nat.{ℕ, zero, suc, _+_, _-_, _<_, _≤_}
+-- Following the chain one record a turn: what the array of marks says is what the definition's list of passed
+-- records says.
+use Prim.Native.Nat.{ℕ, suc, _+_, _-_, _<_, _≤_}
 use native.Mathlib.Nat.{sub-zero}
 use native.Mathlib.Numerals.{add-one}
 use native.Mathlib.Omega.{arith}
 use mathlib.Core.Bool.{Bool, true, false, _||_, cond, or-true, or-false, or-assoc}
 use mathlib.Core.List.{List, [], _∷_, _++_}
-use mathlib.Core.Path.{_≡_, refl, sym, ap, subst, _∙_}
+use mathlib.Core.Path.{_≡_, refl, sym, ap, _∙_}
 use lib.ListN.{length, take, getD, set, length-set, replicate, length-replicate, getD-replicate}
 use lib.Seq.{getD-set-same, getD-set-other, take-suc-set}
 use lib.Dec.{eqb, leb}
@@ -15,7 +15,7 @@ use Rattle.profile.specs.Refusals.{anyOf}
 use Rattle.store.specs.Records.{records, next}
 use Rattle.store.specs.Chain.{Chain, whole, broken, member, follow, chain, inOrder}
 use Rattle.store.specs.Store.{linksAnswer}
-use Rattle.store.specs.Promises.{Fills}
+use Rattle.store.specs.Steps.{ChainRoom, Visits, Fills}
 use Rattle.store.proofs.Filling.{fills-front, fills-refused}
 use Rattle.store.specs.declared.answers.Filled.the-variants.{Front, Refused}
 
@@ -23,6 +23,7 @@ use Rattle.store.specs.declared.answers.Filled.the-variants.{Front, Refu
 pub record Following (b order : List ℕ) (marks : List Bool) (k n : ℕ) : Type 0 where
   pub places : length order ≡ 512
   pub room : length marks ≡ 512
+  pub most : records b ≤ 512
   pub passed : n ≤ records b
   pub here : k < records b
   pub marked : (m : ℕ) → m < 512 → getD marks m false ≡ member m (take n order)
@@ -51,12 +52,13 @@ first-false : (a b : Bool) → (a || b) ≡ false → a ≡ false
 first-false true b e = e
 first-false false b e = refl
 
-pub starts : (b order : List ℕ) → length order ≡ 512 → 1 ≤ records b → Following b order (replicate 512 false) 0 0
+pub starts : {b order : List ℕ} → ChainRoom b order → Following b order (replicate 512 false) 0 0
 unfolding chain anyOf
-starts b order h some =
+starts h =
     record {
-      places = h;
+      places = h .room;
       room = length-replicate 512 false;
+      most = h .most;
       passed = omega arith;
       here = omega arith;
       marked = λ m small. getD-replicate 512 m false false small;
@@ -64,57 +66,56 @@ starts b order h some =
     }
 
 module _
-    {b order : List ℕ} {marks marks′ : List Bool} {k n : ℕ} (now : Following b order marks k n) (more : n < records b)
-    (most : records b ≤ 512) (mark : marks′ ≡ set marks k true)
+    {b order : List ℕ} {marks marks′ : List Bool} {k n m : ℕ} (now : Following b order marks k n) (more : n < records b)
+    (seen : Visits b k marks marks′ m)
   where
     order-now : take (n + 1) (set order n k) ≡ take n order ++ (k ∷ [])
     order-now = rw add-one (take-suc-set order n k (omega arith))
 
-    marked-now : (m : ℕ) → m < 512 → getD marks′ m false ≡ member m (take n order ++ (k ∷ []))
-    marked-now m h = rw mark (marked-more marks (take n order) k m (omega arith) (now .marked m h))
+    marked-now : (j : ℕ) → j < 512 → getD marks′ j false ≡ member j (take n order ++ (k ∷ []))
+    marked-now j h = rw (seen .marked) (marked-more marks (take n order) k j (omega arith) (now .marked j h))
 
     -- the test by marks is the definition's
-    same-test : (m : ℕ) (past : Bool) → leb (records b) m ≡ past
-        → (past || member m (take n order ++ (k ∷ []))) ≡ (past || getD marks′ m false)
-    same-test m true e = refl
-    same-test m false e = sym (marked-now m (let h : m < records b = leb-false (records b) m e in omega arith))
+    same-test : (j : ℕ) (past : Bool) → leb (records b) j ≡ past
+        → (past || member j (take n order ++ (k ∷ []))) ≡ (past || getD marks′ j false)
+    same-test j true e = refl
+    same-test j false e = sym (marked-now j (let h : j < records b = leb-false (records b) j e in omega arith))
 
     -- the turn's two tests, and where they lead
     one-turn :
         chain b
-        ≡ cond (eqb (next b k) 0) (whole (take (n + 1) (set order n k)))
-        (cond (leb (records b) (next b k) || getD marks′ (next b k) false) (broken k)
-        (follow b (records b - (n + 1)) (take (n + 1) (set order n k)) (next b k)))
+        ≡ cond (eqb m 0) (whole (take (n + 1) (set order n k)))
+        (cond (leb (records b) m || getD marks′ m false) (broken k)
+        (follow b (records b - (n + 1)) (take (n + 1) (set order n k)) m))
     unfolding follow
     one-turn =
-        now .follows ∙ rw (left, same-test (next b k) (leb (records b) (next b k)) refl, order-now)
+        now .follows
+        ∙ rw (left, seen .read, same-test (next b k) (leb (records b) (next b k)) refl, order-now)
       where
         left : records b - n ≡ suc (records b - (n + 1))
         left = omega arith
 
-    module _ {m : ℕ} (read : m ≡ next b k) where
-      pub turn-ends : m ≡ 0 → chain b ≡ whole (take (n + 1) (set order n k))
-      turn-ends e = one-turn ∙ rw (← read, eq-eqb m 0 e)
+    pub turn-ends : m ≡ 0 → chain b ≡ whole (take (n + 1) (set order n k))
+    turn-ends e = one-turn ∙ rw (eq-eqb m 0 e)
 
-      module _ (more-left : m ≡ 0 → ⊥) {bad : Bool} (tested : bad ≡ (leb (records b) m || getD marks′ m false)) where
-        second-test :
-            chain b
-            ≡ cond bad (broken k) (follow b (records b - (n + 1)) (take (n + 1) (set order n k)) m)
-        second-test = one-turn ∙ rw (← read, ne-eqb m 0 more-left, ← tested)
+    module _ (more-left : m ≡ 0 → ⊥) {bad : Bool} (tested : bad ≡ (leb (records b) m || getD marks′ m false)) where
+      second-test : chain b ≡ cond bad (broken k) (follow b (records b - (n + 1)) (take (n + 1) (set order n k)) m)
+      second-test = one-turn ∙ rw (ne-eqb m 0 more-left, ← tested)
 
-        pub turn-breaks : bad ≡ true → chain b ≡ broken k
-        turn-breaks e = second-test ∙ rw e
+      pub turn-breaks : bad ≡ true → chain b ≡ broken k
+      turn-breaks e = second-test ∙ rw e
 
-        pub turn-goes-on : bad ≡ false → Following b (set order n k) marks′ m (n + 1)
-        turn-goes-on e =
-            record {
-              places = length-set order n k ∙ now .places;
-              room = ap length mark ∙ length-set marks k true ∙ now .room;
-              passed = omega arith;
-              here = leb-false (records b) m (first-false _ _ (sym tested ∙ e));
-              marked = λ j h. rw order-now (marked-now j h);
-              follows = second-test ∙ rw e;
-            }
+      pub turn-goes-on : bad ≡ false → Following b (set order n k) marks′ m (n + 1)
+      turn-goes-on e =
+          record {
+            places = length-set order n k ∙ now .places;
+            room = ap length (seen .marked) ∙ length-set marks k true ∙ now .room;
+            most = now .most;
+            passed = omega arith;
+            here = leb-false (records b) m (first-false _ _ (sym tested ∙ e));
+            marked = λ j h. rw order-now (marked-now j h);
+            follows = second-test ∙ rw e;
+          }
 
 -- the store has no record left to pass: never so, and answered as the definition does
 pub used-up :

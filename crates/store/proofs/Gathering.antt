@@ -1,5 +1,4 @@
 -- Gathering the vertices one record a turn: the space begins with those of the records passed, as long as it has room.
--- Assumes nothing.
 use Prim.Native.Nat.{ℕ, _+_, _*_, _/_, _<_, _≤_}
 use native.Mathlib.Nat.{add-zero}
 use native.Mathlib.Numerals.{add-one}
@@ -11,23 +10,21 @@ use lib.ListN.{length, take, getD, set, length-append}
 use lib.Seq.{sets, length-sets, take-all}
 use lib.Dec.{ltb}
 use lib.Ieee.{Float}
-use borrow.Author.Tests.{lt-ltb}
+use borrow.Author.Tests.{le-ltb, lt-ltb}
 use Rattle.store.specs.Records.{number}
 use Rattle.store.specs.Kinds.{isVertex}
 use Rattle.store.specs.Store.{vertexNumbers, vertices}
+use Rattle.store.specs.Steps.{SectionRoom, put, Adds, Gathers}
 use Rattle.store.proofs.Lists.{flatMap-more, sets-front}
 
 -- i records are passed, n of them vertices
 pub record Gathered (b order : List ℕ) (space : List Float) (n i : ℕ) : Type 0 where
+  pub short : length order ≤ 512
   pub within : i ≤ length order
   pub few : n ≤ i
   pub room : length space ≡ 512
   pub size : length (vertices b (take i order)) ≡ n * 2
   pub front : n ≤ 256 → take (n * 2) space ≡ vertices b (take i order)
-
--- what the space becomes by the numbers w of one record
-abbrev put : ℕ → List Float → List Float → List Float
-put n space w = cond (ltb n 256) (sets space (n * 2) w) space
 
 same-size : (fits : Bool) (n : ℕ) (space w : List Float) → length (cond fits (sets space (n * 2) w) space) ≡ length space
 same-size true n space w = length-sets space (n * 2) w
@@ -53,6 +50,7 @@ module _ {b order : List ℕ} {space : List Float} {n i : ℕ} (now : Gathered b
       → Gathered b order (put n space (cond vertex (z ∷ r ∷ []) [])) (n + length (cond vertex (z ∷ r ∷ []) []) / 2) (i + 1)
   by-kind true z r e =
       record {
+        short = now .short;
         within = omega arith;
         few = omega arith;
         room = same-size (ltb n 256) n space (z ∷ r ∷ []) ∙ now .room;
@@ -64,6 +62,7 @@ module _ {b order : List ℕ} {space : List Float} {n i : ℕ} (now : Gathered b
       twice = omega arith
   by-kind false z r e =
       record {
+        short = now .short;
         within = omega arith;
         few = omega arith;
         room = same-size (ltb n 256) n space [] ∙ now .room;
@@ -72,34 +71,41 @@ module _ {b order : List ℕ} {space : List Float} {n i : ℕ} (now : Gathered b
       }
 
   pub gathers :
-      {space′ : List Float} {n′ : ℕ} → n′ ≡ n + length (vertexNumbers b (getD order i 0)) / 2
-      → space′ ≡ put n space (vertexNumbers b (getD order i 0)) → Gathered b order space′ n′ (i + 1)
-  gathers count filled =
-      rw (count, filled)
+      {space′ : List Float} {n′ : ℕ} → Adds (vertexNumbers b (getD order i 0)) n space space′ n′
+      → Gathered b order space′ n′ (i + 1)
+  gathers added =
+      rw (added .count, added .filled)
       (by-kind (isVertex b (getD order i 0)) (number b (getD order i 0) 0) (number b (getD order i 0) 1) more-vertices)
 
 -- before the first record, and after the last
-pub none-gathered : (b order : List ℕ) (space : List Float) → length space ≡ 512 → Gathered b order space 0 0
+pub none-gathered : (b : List ℕ) {order : List ℕ} {space : List Float} → SectionRoom order space → Gathered b order space 0 0
 unfolding vertices flatMap
-none-gathered b order space h =
-    record { within = omega arith; few = omega arith; room = h; size = refl; front = λ small. refl }
+none-gathered b h =
+    record {
+      short = h .few;
+      within = omega arith;
+      few = omega arith;
+      room = h .room;
+      size = refl;
+      front = λ small. refl;
+    }
 
 pub all-gathered :
     {b order : List ℕ} {space : List Float} {n i : ℕ} → Gathered b order space n i → length order ≤ i
-    → (length (vertices b order) ≡ n * 2) × (n ≤ 256 → take (n * 2) space ≡ vertices b order)
+    → Gathers (vertices b order) space n
 all-gathered {b} {order} {space} {n} {i} all h =
     let e : take i order ≡ order = take-all i order h in
-    (rw e at (all .size), λ small. rw e at (all .front small))
+    record { size = rw e at (all .size); front = λ small. rw e at (all .front small) }
 
 -- one record: no vertex, or a vertex with room for it
 module _ (b : List ℕ) (k n : ℕ) (space : List Float) where
-  pub adds-nothing :
-      isVertex b k ≡ false
-      → (n ≡ n + length (vertexNumbers b k) / 2) × (space ≡ put n space (vertexNumbers b k))
-  adds-nothing e = rw e (omega arith, sym (nothing (ltb n 256) space))
+  pub adds-nothing : isVertex b k ≡ false → Adds (vertexNumbers b k) n space space n
+  adds-nothing e = rw e (record { filled = sym (nothing (ltb n 256) space); count = omega arith })
+
+  pub adds-no-room : isVertex b k ≡ true → 256 ≤ n → Adds (vertexNumbers b k) n space space (n + 1)
+  adds-no-room e h = rw e (record { filled = rw (le-ltb n 256 h); count = omega arith })
 
   pub adds-vertex :
       {z r : Float} → isVertex b k ≡ true → n < 256 → z ≡ number b k 0 → r ≡ number b k 1
-      → (n + 1 ≡ n + length (vertexNumbers b k) / 2)
-      × (set (set space (n * 2) z) (n * 2 + 1) r ≡ put n space (vertexNumbers b k))
-  adds-vertex e h ez er = rw e (omega arith, rw (lt-ltb n 256 h, ez, er, add-one (n * 2)))
+      → Adds (vertexNumbers b k) n space (set (set space (n * 2) z) (n * 2 + 1) r) (n + 1)
+  adds-vertex e h ez er = rw e (record { filled = rw (lt-ltb n 256 h, ez, er, add-one (n * 2)); count = omega arith })

@@ -1,15 +1,15 @@
--- The verdict on a store, part by part: the length, the links, the kinds and the section. Assumes nothing.
+-- The verdict on a store, part by part: the length, the links, the kinds and the section.
 use Prim.Native.Nat.{ℕ, zero, suc, _*_, _/_, _%_, _<_, _≤_}
 use native.Mathlib.Omega.{arith}
-use mathlib.Core.Bool.{Bool, true, false, _&&_, _||_, cond}
-use mathlib.Core.List.{List, [], _∷_}
-use mathlib.Core.Path.{_≡_, refl, sym, ap, _∙_}
+use mathlib.Core.Bool.{Bool, true, false, _&&_, cond}
+use mathlib.Core.List.{List}
+use mathlib.Core.Path.{_≡_, refl, _∙_}
 use lib.ListN.{length}
 use lib.Dec.{eqb, leb}
 use lib.Ieee.{Float}
-use borrow.Author.Tests.{ne-eqb, lt-ltb, le-ltb, ltb-false, leb-true}
-use Rattle.profile.specs.Vertices.{count}
-use Rattle.profile.specs.Refusals.{anyOf, odd, fewer, more, numbersRefusal, queryRefusal}
+use borrow.Author.Tests.{ne-eqb, lt-ltb, le-ltb, leb-true}
+use Rattle.profile.specs.Refusals.{anyOf, listTests, refusal}
+use Rattle.profile.proofs.Refusals.Passed.{Counted, list-counted}
 use Rattle.store.specs.Records.{records, rightLength}
 use Rattle.store.specs.Chain.{Chain, whole, broken, chain, inOrder}
 use Rattle.store.specs.Kinds.{kindsAnswer}
@@ -35,7 +35,7 @@ length-accepted n e =
     (leb-true 1 (n / 40) (h .0), leb-true (n / 40) 512 (h .1))
 
 -- the section's number
-pub section-number : {t s : List Float} {n : ℕ} → t ≡ s → n ≡ queryRefusal (t ∷ []) t 0 → sectionAnswer s ≡ numbered n
+pub section-number : {t s : List Float} {n : ℕ} → t ≡ s → n ≡ refusal (listTests 3 256 t) → sectionAnswer s ≡ numbered n
 unfolding sectionAnswer
 section-number e h = rw (← e, h)
 
@@ -43,23 +43,17 @@ pub numbered-refused : (n : ℕ) → (n ≡ 0 → ⊥) → numbered n ≡ Refuse
 numbered-refused zero h = absurd (h refl)
 numbered-refused (suc n) h = refl
 
--- an accepted section has 3 to 256 vertices
-three-tests :
-    (a b c : Bool) (rest : ℕ) → numbered (cond (a || false) 1 (cond (b || false) 2 (cond (c || false) 3 rest))) ≡ Accepted
-    → (b ≡ false) × (c ≡ false)
-three-tests true b c rest e = absurd (never e)
-three-tests false true c rest e = absurd (never e)
-three-tests false false true rest e = absurd (never e)
-three-tests false false false rest e = (refl, refl)
+none-numbered : (n : ℕ) → numbered n ≡ Accepted → n ≡ 0
+none-numbered zero e = refl
+none-numbered (suc n) e = absurd (never e)
 
-pub section-accepted : (s : List Float) → sectionAnswer s ≡ Accepted → (3 ≤ count s) × (count s ≤ 256)
-unfolding sectionAnswer queryRefusal anyOf
-section-accepted s e =
-    let h : (fewer 3 s ≡ false) × (more 256 s ≡ false) = three-tests (odd s) (fewer 3 s) (more 256 s) (numbersRefusal s 0) e in
-    (ltb-false (count s) 3 (h .0), ltb-false 256 (count s) (h .1))
+-- an accepted section has 3 to 256 vertices
+pub section-accepted : (s : List Float) → sectionAnswer s ≡ Accepted → Counted 3 256 s
+unfolding sectionAnswer
+section-accepted s e = list-counted 3 256 s (none-numbered (refusal (listTests 3 256 s)) e)
 
 pub too-many : (s : List Float) (n : ℕ) → length s ≡ n * 2 → 256 < n → sectionAnswer s ≡ Refused 3 0
-unfolding sectionAnswer queryRefusal anyOf
+unfolding sectionAnswer refusal anyOf
 too-many s n e h =
     rw (e, ne-eqb (n * 2 % 2) 1 (omega arith), le-ltb (n * 2 / 2) 3 (omega arith), lt-ltb 256 (n * 2 / 2) (omega arith))
 

@@ -1,10 +1,10 @@
--- The verdict on a store: 12, 13 and 14 are tried first, then the section's 2 to 5. Assumes nothing.
+-- The verdict on a store: 12, 13 and 14 are tried first, then the section's 2 to 5.
 use Prim.Native.Nat.{ℕ, zero, suc}
 use mathlib.Core.Bool.{cond}
 use mathlib.Core.List.{List, [], _∷_, flatMap}
 use lib.ListN.{length}
 use lib.Ieee.{Float}
-use Rattle.profile.specs.Refusals.{queryRefusal}
+use Rattle.profile.specs.Refusals.{refusal, listTests}
 use Rattle.store.specs.Records.{rightLength, number}
 use Rattle.store.specs.Chain.{Chain, whole, broken, chain, inOrder}
 use Rattle.store.specs.Kinds.{isVertex, kindsAnswer}
@@ -38,7 +38,7 @@ numbered zero = Accepted
 numbered (suc n) = Refused (suc n) 0
 
 unfoldable pub sectionAnswer : List Float → StoreAnswer
-sectionAnswer s = numbered (queryRefusal (s ∷ []) s 0)
+sectionAnswer s = numbered (refusal (listTests 3 256 s))
 
 -- the chained records of a store, in chain order; no other record counts
 unfoldable pub chained : List ℕ → List ℕ

@@ -6,12 +6,6 @@ pub enum StoreAnswer {
     Refused(u32, u32),
 }
 
-// How many bytes the listing has, or the refusal.
-pub enum ListAnswer {
-    Bytes(usize),
-    Refused(u32, u32),
-}
-
 // How many places of a lent array are filled, from its front on, or the refusal.
 pub enum Filled {
     Front(usize),

@@ -1,14 +1,15 @@
 // The records of a store and the numbers in their bytes, little-endian.
 ghost use mathlib.Core.Path.{_≡_};
-ghost use Prim.Native.Nat.{_<_, _≤_, _^_};
+ghost use Prim.Native.Nat.{_<_, _^_};
 ghost use lib.ListN.{getD};
 ghost use lib.Ieee.{binary64, ofBits};
-ghost use Rattle.store.specs.Bytes.{littleEndian, u32At, f64At};
+ghost use Rattle.store.specs.Bytes.{littleEndian, u32At};
 ghost use Rattle.store.specs.Records.{next, kind, number};
+ghost use Rattle.store.specs.Steps.{Reads};
 
 // 0 past the end
 fn byte_at(b: &[u8], i: usize) -> u64
-    ensures { λ r. ⌜ (r ≡ getD (now (b .entry)) i 0) × (r < 256) ⌝ }
+    ensures { λ r. ⌜ Reads 8 (getD (now (b .entry)) i 0) r ⌝ }
 {
     if i < b.len() {
         return b[i] as u64;
@@ -18,7 +19,7 @@ fn byte_at(b: &[u8], i: usize) -> u64
 
 fn u32_at(b: &[u8], i: usize) -> u64
     requires { ⌜ i < 2 ^ 40 ⌝ }
-    ensures { λ r. ⌜ (r ≡ u32At (now (b .entry)) i) × (r < 2 ^ 32) ⌝ }
+    ensures { λ r. ⌜ Reads 32 (u32At (now (b .entry)) i) r ⌝ }
 {
     let i1 = i + 1;
     let i2 = i1 + 1;

@@ -1,20 +1,19 @@
 // The chain of records from record 0 on, and number 13.
 ghost use mathlib.Core.Path.{_≡_};
-ghost use mathlib.Core.Bool.{true, false, _||_};
+ghost use mathlib.Core.Bool.{false, _||_};
 ghost use Prim.Native.Nat.{_<_, _≤_};
-ghost use lib.ListN.{length, getD, set};
+ghost use lib.ListN.{length, getD};
 ghost use lib.Dec.{leb};
-ghost use Rattle.store.specs.Records.{records, next};
 ghost use Rattle.store.specs.Chain.{chain, inOrder};
 ghost use Rattle.store.specs.Store.{linksAnswer};
-ghost use Rattle.store.specs.Promises.{Fills};
+ghost use Rattle.store.specs.Steps.{ChainRoom, Visits, Fills};
 use super::answers::Filled;
 use super::bytes::next_of;
 
 // Marks record k and reads its next.
 fn visit(store: &[u8], marks: &mut [bool], k: u32) -> u32
     requires { ⌜ (length (now marks) ≡ 512) × (k < 512) ⌝ }
-    ensures { λ r. ⌜ (r ≡ next (now (store .entry)) k) × (now (marks .exit) ≡ set (now (marks .entry)) k true) ⌝ }
+    ensures { λ r. ⌜ Visits (now (store .entry)) k (now (marks .entry)) (now (marks .exit)) r ⌝ }
 {
     marks[k as usize] = true;
     next_of(store, k)
@@ -34,7 +33,7 @@ fn is_bad(marks: &[bool], count: usize, next: u32) -> bool
 
 // Puts the chained records into order, one behind the other.
 pub fn follow_chain(store: &[u8], order: &mut [u32]) -> Filled
-    requires { ⌜ (length (now order) ≡ 512) × (1 ≤ records (now store)) × (records (now store) ≤ 512) ⌝ }
+    requires { ⌜ ChainRoom (now store) (now order) ⌝ }
     ensures { λ r. ⌜ (let c = chain (now (store .entry)) in Fills (linksAnswer c) (inOrder c) r (now (order .exit))) ⌝ }
 {
     let count = store.len() / 40;

@@ -1,18 +1,17 @@
 // Reading a store: its refusals in their order, 12, 13, 14, then those of its section.
 ghost use mathlib.Core.Path.{_≡_};
-ghost use Prim.Native.Nat.{_≤_};
 ghost use lib.ListN.{length};
 ghost use Rattle.store.specs.Records.{rightLength};
 ghost use Rattle.store.specs.Chain.{chain};
 ghost use Rattle.store.specs.Kinds.{kindsAnswer};
 ghost use Rattle.store.specs.Store.{andThen, lengthAnswer, linksAnswer, chained, vertices, sectionAnswer, storeAnswer};
-ghost use Rattle.store.specs.Promises.{Fills};
+ghost use Rattle.store.specs.Steps.{SectionRoom, Fills};
 use super::answers::Filled;
 use super::answers::StoreAnswer;
 use super::chain::follow_chain;
 use super::kinds::kinds_answer;
 use super::vertices::gather;
-use super::vertices::section_refusal;
+use profile::list_refusal;
 
 fn right_length(n: usize) -> bool
     ensures { λ r. ⌜ r ≡ rightLength n ⌝ }
@@ -45,7 +44,7 @@ pub fn read_chain(store: &[u8], order: &mut [u32]) -> Filled
 
 // Fills space with the section, once the kinds are right.
 pub fn read_section(store: &[u8], order: &[u32], space: &mut [f64]) -> Filled
-    requires { ⌜ (length (now space) ≡ 512) × (length (now order) ≤ 512) ⌝ }
+    requires { ⌜ SectionRoom (now order) (now space) ⌝ }
     ensures { λ r. ⌜ (let b = now (store .entry) in let s = vertices b (now (order .entry)) in
         Fills (andThen (kindsAnswer b (now (order .entry))) (sectionAnswer s)) s r (now (space .exit))) ⌝ }
 {
@@ -57,7 +56,7 @@ pub fn read_section(store: &[u8], order: &[u32], space: &mut [f64]) -> Filled
 }
 
 fn fill_section(store: &[u8], order: &[u32], space: &mut [f64]) -> Filled
-    requires { ⌜ (length (now space) ≡ 512) × (length (now order) ≤ 512) ⌝ }
+    requires { ⌜ SectionRoom (now order) (now space) ⌝ }
     ensures { λ r. ⌜ (let s = vertices (now (store .entry)) (now (order .entry)) in
         Fills (sectionAnswer s) s r (now (space .exit))) ⌝ }
 {
@@ -66,7 +65,7 @@ fn fill_section(store: &[u8], order: &[u32], space: &mut [f64]) -> Filled
         return Filled::Refused(3, 0);
     }
     let end = n * 2;
-    let number = section_refusal(&space[..end]);
+    let number = list_refusal(&space[..end], 3, 256);
     if number == 0 {
         return Filled::Front(end);
     }

@@ -54,7 +54,7 @@ fn pass_over(n: usize) -> usize
 
 fn write_listing(buffer: &[u8], n: usize) {
     let mut text = [0u8; 27848];
-    let bytes = store::list_input(buffer, n, &mut text);
+    let bytes = store_listing::list_input(buffer, n, &mut text);
     io::write_all(STDOUT_FILENO, &text[..bytes]);
 }
 

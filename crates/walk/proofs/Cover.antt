@@ -1,9 +1,4 @@
--- Demand 3, from the arithmetic of one place up to the whole walk.
-pub mod Numbers
-pub mod Distances
-pub mod Sizes
-pub mod HalfWidth
-pub mod Spans
+-- Demand 3, from the box of one piece up to the whole walk.
 pub mod Boxes
 pub mod Depth
 pub mod Turns
@@ -11,5 +6,3 @@ pub mod Found
 pub mod Counts
 pub mod Least
 pub mod Covers
-pub mod Accepted
-pub mod Across

@@ -1,11 +1,6 @@
 -- Demand 1 of the cylinder query, over the definitions alone: every distance and witness is finite, and bounded. Every
 -- box that is measured is in order.
-pub mod Bands
 pub mod Pieces
-pub mod Intervals
 pub mod Samples
 pub mod Walks
-pub mod Cylinders
-pub mod Orders
-pub mod OrderedSpans
 pub mod Ordered

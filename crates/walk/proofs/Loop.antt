@@ -16,11 +16,11 @@ use Rattle.profile.specs.declared.shapes.CollisionHit.{CollisionHit}
 use Rattle.walk.specs.Pieces.{piece, wholeWidth}
 use Rattle.walk.specs.Walk.{Walk, better, halved, halves, sampled, waiting, measured}
 use Rattle.walk.specs.Walk.{walk, walkAll, walked, pieces}
-use Rattle.walk.specs.Steps.{Room, measuredOf}
-use Rattle.walk.specs.declared.shapes.RadialBand.{RadialBand}
+use Rattle.walk.specs.Steps.{Room, Waits, Pushed, measuredOf}
+use Rattle.bands.specs.declared.shapes.RadialBand.{RadialBand}
 use Rattle.walk.specs.declared.shapes.Piece.{Piece}
 use Rattle.walk.specs.declared.shapes.Measured.{Measured}
-use Rattle.walk.specs.declared.shapes.CylinderHit.{CylinderHit}
+use Rattle.walk.specs.declared.shapes.CountedHit.{CountedHit}
 use Rattle.walk.proofs.Stored.{pieces-length}
 
 -- the piece at place k
@@ -69,19 +69,18 @@ module _ (s : List Float) (b : RadialBand) (tol : Float) (cap intervals : ℕ) w
 module _ {s : List Float} {b : RadialBand} {tol : Float} {cap intervals : ℕ} where
   -- the whole width waits
   pub begun : (w₀ : List Float) {w : List Float} {n : ℕ} {p : Piece} {least : Float} {best : CollisionHit}
-      → (n ≡ 1) × (pieces w n ≡ p ∷ pieces w₀ 0) → length w ≡ 108
-      → p ≡ wholeWidth b → best ≡ sampled s b intervals → least ≡ ∞
+      → Pushed p 0 w₀ w n → p ≡ wholeWidth b → best ≡ sampled s b intervals → least ≡ ∞
       → State s b tol cap intervals w n 0 1 least best
   unfolding pieces walkAll
-  begun w₀ e l q u i =
+  begun w₀ e q u i =
       record {
         fuel = cap;
         seen = [];
         budget = zero-add cap;
         counted = refl;
-        few = omega (arith, e .0);
-        stored = l;
-        ahead = rw (e .1, q, u, i);
+        few = e .waits .few;
+        stored = e .waits .stored;
+        ahead = rw (e .waits .are, q, u, i);
       }
 
   module _ {w : List Float} {n boxes most : ℕ} {least : Float} {best : CollisionHit}
@@ -98,7 +97,7 @@ module _ {s : List Float} {b : RadialBand} {tol : Float} {cap intervals : ℕ} w
         rw (← S .ahead, e, ← S .counted, nothing s b tol cap intervals (S .fuel) now)
 
     -- no box is left
-    pub cut-short : {r : CylinderHit} → 0 < n → boxes ≡ cap
+    pub cut-short : {r : CountedHit} → 0 < n → boxes ≡ cap
         → r ≡ record { hit = hit least (best .witness); boxes = boxes; waiting = most; cut = true }
         → r ≡ walked (walkAll s b tol cap intervals)
     unfolding walk pieces
@@ -130,12 +129,12 @@ module _ {s : List Float} {b : RadialBand} {tol : Float} {cap intervals : ℕ} w
 
       module _ {m : Measured} (e : m ≡ measuredOf s b p) {h : Bool}
           (t : h ≡ halved tol (m .hit) (m .variation) best p) where
-        abbrev Waits : List Piece → Type 0
-        Waits ps = ps ≡ cond h (halves p (pieces w k)) (pieces w k)
+        abbrev kept : List Piece
+        kept = cond h (halves p (pieces w k)) (pieces w k)
 
-        waits : {ps : List Piece} → Waits ps → ps ≡ next
-        waits q =
-            q ∙ ap (λ (u : Bool). cond u (halves p (pieces w k)) (pieces w k))
+        waits : kept ≡ next
+        waits =
+            ap (λ (u : Bool). cond u (halves p (pieces w k)) (pieces w k))
             (t ∙ ap (λ (x : Measured). halved tol (x .hit) (x .variation) best p) e)
 
         pub has-room : Room s b tol cap intervals → h ≡ true → k + 2 ≤ 54
@@ -143,7 +142,7 @@ module _ {s : List Float} {b : RadialBand} {tol : Float} {cap intervals : ℕ} w
             let grown = most-grows s b tol cap intervals (cap - suc boxes) next (measured s b tol p (pieces w k) now) in
             let g : maxℕ most (length next) ≤ walkAll s b tol cap intervals .most = rw onward at grown in
             let l : length next ≡ suc (suc k) =
-            rw (← waits refl, on) (ap (λ (x : ℕ). suc (suc x)) (pieces-length w k)) in
+            rw (← waits, on) (ap (λ (x : ℕ). suc (suc x)) (pieces-length w k)) in
             omega (arith, room)
 
         carry : (ps : List Piece) (x : Measured) (most′ : ℕ)
@@ -153,18 +152,18 @@ module _ {s : List Float} {b : RadialBand} {tol : Float} {cap intervals : ℕ} w
             ≡ walkAll s b tol cap intervals
         carry ps x most′ u v y = rw (u, v, y) onward
 
-        pub turned : {w′ : List Float} {n′ : ℕ} → (n′ ≤ 54) × Waits (pieces w′ n′) → length w′ ≡ 108
+        pub turned : {w′ : List Float} {n′ : ℕ} → Waits kept w′ n′
             → State s b tol cap intervals w′ n′ (boxes + 1) (maxℕ most n′)
             (min least (m .hit .distance)) (better (m .hit) (m .variation) best)
-        turned {w′} {n′} q l =
+        turned {w′} {n′} q =
             record {
               fuel = cap - suc boxes;
               seen = p ∷ S .seen;
               budget = omega arith;
               counted = omega (arith, S .counted);
-              few = q .0;
-              stored = l;
+              few = q .few;
+              stored = q .stored;
               ahead =
-                  carry (pieces w′ n′) m (maxℕ most n′) (waits (q .1)) e
-                  (ap (maxℕ most) (sym (pieces-length w′ n′) ∙ ap length (waits (q .1))));
+                  carry (pieces w′ n′) m (maxℕ most n′) (q .are ∙ waits) e
+                  (ap (maxℕ most) (sym (pieces-length w′ n′) ∙ ap length (q .are ∙ waits)));
             }

@@ -7,19 +7,12 @@ use mathlib.Core.List.{List, [], _∷_, List·Memᴰ}
 use lib.ListN.{length}
 use lib.Dec.{T}
 use lib.Ieee.{Float, binary64, fits}
-use Rattle.arith.specs.F64.{_⊕_, _⊖_, _≺_, _≼_, e-9, e-15}
-use Rattle.section.specs.Demand.{Bounded}
-use Rattle.walk.specs.Axis.{axis}
-use Rattle.walk.specs.Band.{bandOf, halfWidth, spanAt}
+use Rattle.arith.specs.F64.{_⊕_, _⊖_, _≺_, _≼_}
+use Rattle.bands.specs.Band.{halfWidth, spanAt}
 use Rattle.walk.specs.Pieces.{wholeWidth, boxOf, variation}
-use Rattle.walk.specs.Walk.{Walk, boxHit, sampled, left, walkAll, walked, reported}
-use Rattle.walk.specs.declared.shapes.Cylinder.{Cylinder}
-use Rattle.walk.specs.declared.shapes.CylinderHit.{CylinderHit}
-use Rattle.walk.specs.declared.shapes.CylinderAnswer.{CylinderAnswer}
-use Rattle.walk.specs.declared.shapes.CylinderAnswer.the-variants.{Hit, Refused}
-use Rattle.walk.specs.declared.shapes.RadialBand.{RadialBand}
+use Rattle.walk.specs.Walk.{Walk, boxHit, sampled, left, reported}
+use Rattle.bands.specs.declared.shapes.RadialBand.{RadialBand}
 use Rattle.walk.specs.declared.shapes.Piece.{Piece}
-use Rattle.walk.specs.declared.shapes.Axis.the-variants.{Radial}
 
 abbrev pub waits : List Piece → Bool
 waits [] = false
@@ -58,20 +51,3 @@ pub record Covers (s : List Float) (b : RadialBand) (tol : Float) (cap n : ℕ) 
   pub uncut : w .cut ≡ false → (z : Float) → T (fits binary64 z) → T (wholeWidth b .z0 ≼ z) → T (z ≼ wholeWidth b .z1)
       → Covered s b tol w z
   pub cut : w .cut ≡ true → Least s b tol w
-
--- Demand 3 of a hit: across the spindle, radius above 1e-15, distance, counts and mark are those of 01's walk, and the walk covers
-pub record Across (s : List Float) (c : Cylinder) (h : CylinderHit) : Type 0 where
-  pub walk : h ≡ walked (walkAll s (bandOf c) e-9 8192 16)
-  pub covers : Covers s (bandOf c) e-9 8192 16 (walkAll s (bandOf c) e-9 8192 16)
-
--- Demands 1 and 3 of a hit: always finite, also beside a section on the axis only; counts within their limits
-pub record Promised (s : List Float) (c : Cylinder) (h : CylinderHit) : Type 0 where
-  pub bounded : Bounded (h .hit)
-  pub boxes : h .boxes ≤ 8192
-  pub waiting : h .waiting ≤ 54
-  pub across : axis c ≡ Radial → T (e-15 ≺ c .radius) → Across s c h
-
--- a hit has it; a refusal owes nothing
-abbrev pub OfHit : (CylinderHit → Type 0) → CylinderAnswer → Type 0
-OfHit P (Hit h) = P h
-OfHit P (Refused n) = Unit {0}

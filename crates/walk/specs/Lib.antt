@@ -1,9 +1,5 @@
--- Document 01's cylinders, in its order: the axis, the band, the walk, the answer, the verdict. Cover is demand 3.
-pub mod Axis
-pub mod Band
+-- 01's walk: its pieces, its steps. Cover is what is promised of every walk.
 pub mod Pieces
 pub mod Walk
-pub mod Cylinders
 pub mod Cover
-pub mod Verdicts
 pub mod Steps

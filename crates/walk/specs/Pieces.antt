@@ -3,9 +3,9 @@ use lib.Ieee.{Float}
 use Rattle.arith.specs.F64.{_⊕_, _⊖_, 𝟘}
 use Rattle.arith.specs.Num.{min, max, clamp}
 use Rattle.profile.specs.declared.shapes.Aabb.{Aabb}
-use Rattle.walk.specs.Band.{halfWidth, spanAt}
-use Rattle.walk.specs.declared.shapes.RadialBand.{RadialBand}
-use Rattle.walk.specs.declared.shapes.Span.{Span}
+use Rattle.bands.specs.Band.{halfWidth, spanAt}
+use Rattle.bands.specs.declared.shapes.RadialBand.{RadialBand}
+use Rattle.bands.specs.declared.shapes.Span.{Span}
 use Rattle.walk.specs.declared.shapes.Piece.{Piece}
 use Rattle.walk.specs.declared.shapes.Spans.{Spans}
 

@@ -1,14 +1,17 @@
--- What the functions below the entry points compute on the way, and what they ask of the walk's array. Assumes nothing.
-use Prim.Native.Nat.{ℕ, _≤_}
-use mathlib.Core.List.{List}
+-- What the functions below the entry points compute on the way, and what they ask of the walk's array.
+use Prim.Native.Nat.{ℕ, _+_, _≤_}
+use mathlib.Core.Bool.{Bool, true}
+use mathlib.Core.List.{List, _∷_}
+use mathlib.Core.Path.{_≡_}
+use lib.ListN.{length}
 use lib.Ieee.{Float}
 use Rattle.arith.specs.F64.{e-9}
-use Rattle.profile.specs.Vertices.{nearestOf}
-use Rattle.section.specs.Points.{pointDistance}
+use Rattle.profile.specs.Vertices.{count, nearestOf}
+use Rattle.points.specs.Points.{pointDistance}
 use Rattle.profile.specs.declared.shapes.CollisionHit.{CollisionHit}
 use Rattle.walk.specs.Pieces.{variation}
-use Rattle.walk.specs.Walk.{sampleAt, boxHit, walkAll}
-use Rattle.walk.specs.declared.shapes.RadialBand.{RadialBand}
+use Rattle.walk.specs.Walk.{sampleAt, boxHit, pieces, walkAll}
+use Rattle.bands.specs.declared.shapes.RadialBand.{RadialBand}
 use Rattle.walk.specs.declared.shapes.Piece.{Piece}
 use Rattle.walk.specs.declared.shapes.Measured.{Measured}
 
@@ -24,5 +27,27 @@ measuredOf s b p = record { hit = boxHit s b p; variation = variation b p }
 abbrev pub Room : List Float → RadialBand → Float → ℕ → ℕ → Type 0
 Room s b tol cap n = walkAll s b tol cap n .most ≤ 54
 
+pub record Walkable (s : List Float) (b : RadialBand) (tol : Float) (cap n : ℕ) : Type 0 where
+  pub vertices : 3 ≤ count s
+  pub samples : n ≤ 64
+  pub room : Room s b tol cap n
+
 abbrev pub BandRoom : List Float → RadialBand → Type 0
 BandRoom s b = Room s b e-9 8192 16
+
+-- in the array w, of 54 pieces, the first n wait, and they are ps
+pub record Waits (ps : List Piece) (w : List Float) (n : ℕ) : Type 0 where
+  pub few : n ≤ 54
+  pub stored : length w ≡ 108
+  pub are : pieces w n ≡ ps
+
+-- p waits above the first n, and r counts it
+pub record Pushed (p : Piece) (n : ℕ) (before after : List Float) (r : ℕ) : Type 0 where
+  pub count : r ≡ n + 1
+  pub waits : Waits (p ∷ pieces before n) after r
+
+-- n pieces wait, and two more may if a piece is halved
+pub record HalvesRoom (halve : Bool) (w : List Float) (n : ℕ) : Type 0 where
+  pub few : n ≤ 54
+  pub both : halve ≡ true → n + 2 ≤ 54
+  pub stored : length w ≡ 108

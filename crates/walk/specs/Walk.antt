@@ -9,16 +9,16 @@ use lib.Ieee.{Float, nan, binary64, ofInt}
 use Rattle.arith.specs.F64.{_⊕_, _⊖_, _⊗_, _⊘_, _≺_, _≼_, 𝟘, ∞, e-9, e-12, e-15}
 use Rattle.arith.specs.Num.{min}
 use Rattle.profile.specs.Vertices.{vertex, hit, upto, nearer, nearestOf}
-use Rattle.section.specs.Points.{pointDistance}
-use Rattle.section.specs.Boxes.{boxDistance}
+use Rattle.points.specs.Points.{pointDistance}
+use Rattle.boxes.specs.Boxes.{boxDistance}
 use Rattle.profile.specs.declared.shapes.Vertex.{Vertex}
 use Rattle.profile.specs.declared.shapes.CollisionHit.{CollisionHit}
 use Rattle.profile.specs.declared.shapes.Aabb.{Aabb}
-use Rattle.walk.specs.Band.{mean, halfWidth, spanAt}
+use Rattle.bands.specs.Band.{mean, halfWidth, spanAt}
 use Rattle.walk.specs.Pieces.{piece, wholeWidth, boxOf, variation}
-use Rattle.walk.specs.declared.shapes.RadialBand.{RadialBand}
+use Rattle.bands.specs.declared.shapes.RadialBand.{RadialBand}
 use Rattle.walk.specs.declared.shapes.Piece.{Piece}
-use Rattle.walk.specs.declared.shapes.CylinderHit.{CylinderHit}
+use Rattle.walk.specs.declared.shapes.CountedHit.{CountedHit}
 
 -- ---- the starting distance
 
@@ -122,12 +122,12 @@ module _ (s : List Float) (b : RadialBand) where
 abbrev pub reported : Walk → Float
 reported w = cond (w .cut) (w .least) (w .best .distance)
 
-abbrev pub walked : Walk → CylinderHit
+abbrev pub walked : Walk → CountedHit
 walked w =
     record { hit = hit (reported w) (w .best .witness); boxes = length (w .seen); waiting = w .most; cut = w .cut }
 
 -- one box, nothing waiting, uncut
-abbrev pub oneBox : CollisionHit → CylinderHit
+abbrev pub oneBox : CollisionHit → CountedHit
 oneBox h = record { hit = h; boxes = 1; waiting = 0; cut = false }
 
 -- radius ≤ 1e-15 measures one box at zc
@@ -135,7 +135,7 @@ abbrev pub thinBox : RadialBand → Aabb
 thinBox b = let r = spanAt b 𝟘 in record { z0 = b .zc; z1 = b .zc; r0 = r .lo; r1 = r .hi }
 
 -- 01's `band_distance`
-unfoldable pub bandDistance : List Float → RadialBand → CylinderHit
+unfoldable pub bandDistance : List Float → RadialBand → CountedHit
 bandDistance s b =
     cond (b .radius ≼ e-15) (oneBox (boxDistance s (thinBox b))) (walked (walkAll s b e-9 8192 16))
 

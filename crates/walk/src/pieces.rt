@@ -7,10 +7,10 @@ ghost use Rattle.walk.specs.Pieces.{spansOf, boxFrom, variationFrom};
 ghost use Rattle.walk.specs.Steps.{measuredOf};
 use super::shapes::Measured;
 use super::shapes::Piece;
-use super::shapes::RadialBand;
 use super::shapes::Spans;
-use section::Aabb;
-use section::box_distance;
+use bands::RadialBand;
+use boxes::box_distance;
+use profile::Aabb;
 
 pub fn whole_width(b: RadialBand) -> Piece
     ensures { λ r. ⌜ r ≡ pieces.wholeWidth b ⌝ }

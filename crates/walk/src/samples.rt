@@ -5,11 +5,11 @@ ghost use Rattle.profile.specs.Vertices.{count};
 ghost use Rattle.walk.specs.Walk as walk;
 ghost use Rattle.walk.specs.Steps.{samplesAt};
 use super::pieces::whole_width;
-use super::shapes::RadialBand;
-use section::CollisionHit;
-use section::Vertex;
-use section::nearer_of;
-use section::signed_distance_2d;
+use bands::RadialBand;
+use points::signed_distance_2d;
+use profile::CollisionHit;
+use profile::Vertex;
+use profile::nearer_of;
 
 // At z the least, the greatest and the mean radius, against the best so far.
 fn sample_at(s: &[f64], b: RadialBand, z: f64, best: CollisionHit) -> CollisionHit

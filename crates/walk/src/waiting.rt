@@ -1,17 +1,16 @@
 // The pieces that wait, in a flat array of start and end, and the halves that join them.
 ghost use mathlib.Core.Path.{_≡_};
-ghost use mathlib.Core.Bool.{true, cond};
-ghost use mathlib.Core.List.{_∷_};
-ghost use Prim.Native.Nat.{_+_, _<_, _≤_};
+ghost use mathlib.Core.Bool.{cond};
+ghost use Prim.Native.Nat.{_<_};
 ghost use lib.ListN.{length};
 ghost use Rattle.walk.specs.Walk.{halves, pieces};
+ghost use Rattle.walk.specs.Steps.{Pushed, HalvesRoom, Waits};
 use super::shapes::Piece;
 
 // Piece p waits above the first n; the number that then wait.
 pub fn push(waiting: &mut [f64; 108], n: usize, p: Piece) -> usize
     requires { ⌜ (n < 54) × (length (now waiting) ≡ 108) ⌝ }
-    ensures { λ r. ⌜ (r ≡ n + 1) × (pieces (now (waiting .exit)) r ≡ p ∷ pieces (now (waiting .entry)) n) ⌝ }
-    ensures { λ _. ⌜ length (now (waiting .exit)) ≡ 108 ⌝ }
+    ensures { λ r. ⌜ Pushed p n (now (waiting .entry)) (now (waiting .exit)) r ⌝ }
 {
     let at = 2 * n;
     waiting[at] = p.z0;
@@ -21,12 +20,9 @@ pub fn push(waiting: &mut [f64; 108], n: usize, p: Piece) -> usize
 
 // Both halves of p wait above the first n, the left one first, if p is halved.
 pub fn push_halves(waiting: &mut [f64; 108], n: usize, p: Piece, halve: bool) -> usize
-    requires { ⌜ (n ≤ 54) × (halve ≡ true → n + 2 ≤ 54) × (length (now waiting) ≡ 108) ⌝ }
-    ensures { λ r. ⌜
-        (r ≤ 54)
-        × (let ps = pieces (now (waiting .entry)) n in pieces (now (waiting .exit)) r ≡ cond halve (halves p ps) ps)
-        ⌝ }
-    ensures { λ _. ⌜ length (now (waiting .exit)) ≡ 108 ⌝ }
+    requires { ⌜ HalvesRoom halve (now waiting) n ⌝ }
+    ensures { λ r. ⌜ (let ps = pieces (now (waiting .entry)) n in
+        Waits (cond halve (halves p ps) ps) (now (waiting .exit)) r) ⌝ }
 {
     if halve {
         let mid = (p.z0 + p.z1) * 0.5;

@@ -4,22 +4,22 @@ ghost use mathlib.Core.Bool.{true, _&&_};
 ghost use Prim.Native.Nat.{_≤_, max};
 ghost use Rattle.arith.specs.F64.{_≺_};
 ghost use Rattle.profile.specs.Vertices.{count, hit};
-ghost use Rattle.section.specs.Boxes.{boxDistance};
+ghost use Rattle.boxes.specs.Boxes.{boxDistance};
 ghost use Rattle.walk.specs.Walk as walk;
-ghost use Rattle.walk.specs.Steps.{Room, BandRoom};
+ghost use Rattle.walk.specs.Steps.{Walkable, BandRoom};
 use super::pieces::measure;
 use super::pieces::whole_width;
 use super::samples::sampled;
-use super::shapes::CylinderHit;
+use super::shapes::CountedHit;
 use super::shapes::Measured;
 use super::shapes::Piece;
-use super::shapes::RadialBand;
 use super::waiting::push;
 use super::waiting::push_halves;
-use section::Aabb;
-use section::CollisionHit;
-use section::box_distance;
-use section::nearer_of;
+use bands::RadialBand;
+use boxes::box_distance;
+use profile::Aabb;
+use profile::CollisionHit;
+use profile::nearer_of;
 
 // Agreement required between the bounds.
 const BAND_TOL: f64 = 1e-9;
@@ -67,13 +67,13 @@ fn halved(tol: f64, m: Measured, best: CollisionHit, p: Piece) -> bool
 }
 
 // What is reported of a walk that is cut: the least box distance, with the witness of the best.
-fn cut_off(least: f64, best: CollisionHit, boxes: usize, most: usize) -> CylinderHit
+fn cut_off(least: f64, best: CollisionHit, boxes: usize, most: usize) -> CountedHit
     ensures { λ r. ⌜
         r ≡ record { hit = hit least (best .witness); boxes = boxes; waiting = most; cut = true }
         ⌝ }
 {
     let witness = best.witness;
-    CylinderHit {
+    CountedHit {
         hit: CollisionHit {
             distance: least,
             witness,
@@ -91,8 +91,8 @@ fn larger(a: usize, b: usize) -> usize
 }
 
 // A walk with this tolerance, at most cap boxes and this number of sample intervals.
-fn walk_with(s: &[f64], b: RadialBand, tol: f64, cap: usize, intervals: usize) -> CylinderHit
-    requires { ⌜ (3 ≤ count (now s)) × (intervals ≤ 64) × Room (now s) b tol cap intervals ⌝ }
+fn walk_with(s: &[f64], b: RadialBand, tol: f64, cap: usize, intervals: usize) -> CountedHit
+    requires { ⌜ Walkable (now s) b tol cap intervals ⌝ }
     ensures { λ r. ⌜ r ≡ walk.walked (walk.walkAll (now (s .entry)) b tol cap intervals) ⌝ }
 {
     let mut waiting = [0.0; 108];
@@ -117,7 +117,7 @@ fn walk_with(s: &[f64], b: RadialBand, tol: f64, cap: usize, intervals: usize) -
         boxes += 1;
         most = larger(most, n);
     }
-    CylinderHit {
+    CountedHit {
         hit: best,
         boxes,
         waiting: most,
@@ -126,11 +126,11 @@ fn walk_with(s: &[f64], b: RadialBand, tol: f64, cap: usize, intervals: usize) -
 }
 
 // One box, nothing waiting, uncut.
-pub fn one_box(s: &[f64], x: Aabb) -> CylinderHit
+pub fn one_box(s: &[f64], x: Aabb) -> CountedHit
     requires { ⌜ 3 ≤ count (now s) ⌝ }
     ensures { λ r. ⌜ r ≡ walk.oneBox (boxDistance (now (s .entry)) x) ⌝ }
 {
-    CylinderHit {
+    CountedHit {
         hit: box_distance(s, x),
         boxes: 1,
         waiting: 0,
@@ -151,7 +151,7 @@ fn thin_box(b: RadialBand) -> Aabb
     }
 }
 
-pub fn band_distance(s: &[f64], b: RadialBand) -> CylinderHit
+pub fn band_distance(s: &[f64], b: RadialBand) -> CountedHit
     requires { ⌜ (3 ≤ count (now s)) × BandRoom (now s) b ⌝ }
     ensures { λ r. ⌜ r ≡ walk.bandDistance (now (s .entry)) b ⌝ }
 {

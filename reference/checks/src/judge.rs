@@ -12,7 +12,7 @@ pub fn vertices(list: &[f64]) -> Vec<(f64, f64)> {
 
 /// Panics where table and Rust contradict each other: then the checker is at fault, not the port.
 pub fn expected(query: &Query) -> Answer {
-    if let Some(number) = refusal(query) {
+    if let Err(number) = accepted(query) {
         assert!(rust_refuses(query, number), "the Rust accepts what the table refuses: {}", query.line());
         return Answer::Refused(number);
     }
@@ -22,16 +22,17 @@ pub fn expected(query: &Query) -> Answer {
     }
 }
 
-fn refusal(query: &Query) -> Option<u32> {
+/// Whether the table accepts a query, or the number under which it is refused.
+fn accepted(query: &Query) -> Result<(), u32> {
     let list = |i: usize| query.lists[i].as_slice();
     match query.kind {
-        Kind::Sqrt | Kind::Hypot => None,
+        Kind::Sqrt | Kind::Hypot => Ok(()),
         Kind::Point => table::point(list(0), query.array(), &[]),
         Kind::Sphere => table::sphere(list(0), query.array(), &[]),
         Kind::Box => table::rectangle(list(0), query.array(), &[]),
         Kind::Convex => table::convex(list(0), list(1), &[]),
-        Kind::Section => table::build_section(list(0), &space(query)).err(),
-        Kind::Polygon => table::build_polygon(list(0), &space(query)).err(),
+        Kind::Section => table::build_section(list(0), &space(query)).map(|_| ()),
+        Kind::Polygon => table::build_polygon(list(0), &space(query)).map(|_| ()),
         Kind::Cylinder => table::cylinder(list(0), query.array(), &[]),
         Kind::VerdictSphere => table::sphere(list(0), query.array(), &query.numbers[4..]),
         Kind::VerdictBox => table::rectangle(list(0), query.array(), &query.numbers[4..]),

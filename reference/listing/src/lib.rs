@@ -52,9 +52,7 @@ fn accepted(store: &[u8]) -> Result<String, Refusal> {
         .flat_map(|&k| [records[k].numbers[0], records[k].numbers[1]])
         .collect();
     // a point at the origin adds no number of its own
-    if let Some(number) = table::point(&section, [0.0; 3], &[]) {
-        return Err((number, 0));
-    }
+    table::point(&section, [0.0; 3], &[]).map_err(|number| (number, 0))?;
     let mut text = format!("section {}\n", section.len() / 2);
     for &k in &chain {
         line(&mut text, k, &records[k], &section);
@@ -81,7 +79,7 @@ fn chain(records: &[Record]) -> Result<Vec<usize>, Refusal> {
 fn line(text: &mut String, k: usize, record: &Record, section: &[f64]) {
     let [a, b, c, d] = record.numbers;
     let vertices: Vec<(f64, f64)> = section.chunks(2).map(|v| (v[0], v[1])).collect();
-    let (refused, hit): (Option<u32>, Option<Hit>) = match record.kind {
+    let (accepted, hit): (Result<(), u32>, Option<Hit>) = match record.kind {
         2 => (
             table::sphere(section, record.numbers, &[]),
             probe::sphere(&probe::solid(&vertices), Sphere { center: Vec3::new(a, b, c), radius: d }),
@@ -89,7 +87,7 @@ fn line(text: &mut String, k: usize, record: &Record, section: &[f64]) {
         3 => (table::rectangle(section, record.numbers, &[]), aabb_polygon_distance(a, b, c, d, &vertices)),
         _ => return,
     };
-    if let Some(number) = refused {
+    if let Err(number) = accepted {
         writeln!(text, "{k} refused {number}").unwrap();
         return;
     }

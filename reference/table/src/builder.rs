@@ -1,6 +1,6 @@
 //! The two builders: which points are kept, and the lent space afterwards.
 
-use crate::Refusals;
+use crate::{first, numbers, shapes};
 
 /// How many numbers are kept, and the whole lent space afterwards.
 #[derive(Clone, Debug, PartialEq)]
@@ -27,44 +27,21 @@ fn pairs(list: &[f64]) -> impl Iterator<Item = Point> {
     list.chunks_exact(2).map(|pair| (pair[0], pair[1]))
 }
 
-/// 8, or the kept points in front of the rest of the space.
-fn finish(kept: &[Point], space: &[f64]) -> Result<Built, u32> {
-    if kept.len() < 3 {
-        return Err(8);
-    }
-    let mut filled: Vec<f64> = kept.iter().flat_map(|point| [point.0, point.1]).collect();
-    let count = filled.len();
-    filled.extend_from_slice(&space[count..]);
-    Ok(Built { kept: count, space: filled })
-}
-
-/// 2 to 254 points; a radius in [-1e-9, 0) becomes 0; the closing points follow.
-pub fn build_section(points: &[f64], space: &[f64]) -> Result<Built, u32> {
-    let mut refusals = Refusals::default();
-    refusals.list(points, 2, 254);
-    refusals.note(6, pairs(points).any(|(_, radius)| radius < -1e-9));
-    refusals.note(7, space.len() < 2 * (points.len() / 2 + 2));
-    if let Some(number) = refusals.0 {
-        return Err(number);
-    }
+/// The points that a section keeps: radii below 0 raised, the closing points at the end.
+fn section_points(points: &[f64]) -> Vec<Point> {
     let mut kept = Vec::new();
     for (z, radius) in pairs(points) {
         keep(&mut kept, (z, if radius < 0.0 { 0.0 } else { radius }));
     }
-    let (first, last) = (kept[0], kept[kept.len() - 1]);
-    keep(&mut kept, (last.0, 0.0));
-    keep(&mut kept, (first.0, 0.0));
-    finish(&kept, space)
+    if let (Some(&first), Some(&last)) = (kept.first(), kept.last()) {
+        keep(&mut kept, (last.0, 0.0));
+        keep(&mut kept, (first.0, 0.0));
+    }
+    kept
 }
 
-/// 3 to 256 vertices; a repeated closing vertex is dropped.
-pub fn build_polygon(points: &[f64], space: &[f64]) -> Result<Built, u32> {
-    let mut refusals = Refusals::default();
-    refusals.list(points, 3, 256);
-    refusals.note(7, space.len() < 2 * (points.len() / 2));
-    if let Some(number) = refusals.0 {
-        return Err(number);
-    }
+/// The vertices that a polygon keeps, without a repeated closing one.
+fn polygon_points(points: &[f64]) -> Vec<Point> {
     let mut kept = Vec::new();
     for point in pairs(points) {
         keep(&mut kept, point);
@@ -72,7 +49,35 @@ pub fn build_polygon(points: &[f64], space: &[f64]) -> Result<Built, u32> {
     if kept.len() >= 2 && same(kept[0], kept[kept.len() - 1]) {
         kept.pop();
     }
-    finish(&kept, space)
+    kept
+}
+
+/// The kept points in front of the rest of the space.
+fn filled(kept: &[Point], space: &[f64]) -> Built {
+    let mut filled: Vec<f64> = kept.iter().flat_map(|point| [point.0, point.1]).collect();
+    let count = filled.len();
+    filled.extend_from_slice(&space[count..]);
+    Built { kept: count, space: filled }
+}
+
+/// 2 to 254 points; a radius in [-1e-9, 0) becomes 0; the closing points follow.
+pub fn build_section(points: &[f64], space: &[f64]) -> Result<Built, u32> {
+    let kept = section_points(points);
+    let own = [
+        (6, pairs(points).any(|(_, radius)| radius < -1e-9)),
+        (7, space.len() < 2 * (points.len() / 2 + 2)),
+        (8, kept.len() < 3),
+    ];
+    first(&[&shapes(&[points], 2, 254), &numbers(&[points]), &own])?;
+    Ok(filled(&kept, space))
+}
+
+/// 3 to 256 vertices; a repeated closing vertex is dropped.
+pub fn build_polygon(points: &[f64], space: &[f64]) -> Result<Built, u32> {
+    let kept = polygon_points(points);
+    let own = [(7, space.len() < 2 * (points.len() / 2)), (8, kept.len() < 3)];
+    first(&[&shapes(&[points], 3, 256), &numbers(&[points]), &own])?;
+    Ok(filled(&kept, space))
 }
 
 #[cfg(test)]

@@ -1,5 +1,5 @@
 //! Document 01's table of refusals, numbers 1 to 11, and its builder rules, written from its text.
-//! The lowest number that applies, over everything that is given.
+//! Each call has one list of tests, written in the order in which it tests: the first that is true gives the number.
 
 mod builder;
 
@@ -8,83 +8,61 @@ pub use builder::{Built, build_polygon, build_section};
 /// Largest magnitude of a given coordinate, bound, radius or clearance.
 pub const LIMIT: f64 = 1_048_576.0;
 
-/// Collects the numbers that apply and keeps the lowest.
-#[derive(Default)]
-struct Refusals(Option<u32>);
+/// A number, and whether it applies.
+pub type Test = (u32, bool);
 
-impl Refusals {
-    fn note(&mut self, number: u32, applies: bool) {
-        if applies && self.0.is_none_or(|lowest| number < lowest) {
-            self.0 = Some(number);
-        }
+/// The number of the first test that is true. The list comes in parts, one after the other.
+pub fn first(parts: &[&[Test]]) -> Result<(), u32> {
+    match parts.iter().copied().flatten().find(|(_, applies)| *applies) {
+        Some(&(number, _)) => Err(number),
+        None => Ok(()),
     }
+}
 
-    /// 1, 2 and 3: a list of numbers in pairs, with the fewest and the most pairs it may have.
-    fn list(&mut self, list: &[f64], fewest: usize, most: usize) {
-        self.note(1, list.len() % 2 == 1);
-        self.note(2, list.len() / 2 < fewest);
-        self.note(3, list.len() / 2 > most);
-        self.numbers(list);
-    }
+/// 1, 2 and 3, each over all lists: numbers in pairs, with the fewest and the most pairs that a list may have.
+fn shapes(lists: &[&[f64]], fewest: usize, most: usize) -> [Test; 3] {
+    [
+        (1, lists.iter().any(|list| list.len() % 2 == 1)),
+        (2, lists.iter().any(|list| list.len() / 2 < fewest)),
+        (3, lists.iter().any(|list| list.len() / 2 > most)),
+    ]
+}
 
-    /// 4 and 5.
-    fn numbers(&mut self, numbers: &[f64]) {
-        self.note(4, numbers.iter().any(|x| !x.is_finite()));
-        self.note(5, numbers.iter().any(|x| x.abs() > LIMIT));
-    }
+/// 1, 2 and 3 of a query's lists.
+fn vertices(lists: &[&[f64]]) -> [Test; 3] {
+    shapes(lists, 3, 256)
+}
 
-    fn vertices(&mut self, list: &[f64]) {
-        self.list(list, 3, 256);
-    }
+/// 4 and 5, each over all numbers that are given.
+fn numbers(given: &[&[f64]]) -> [Test; 2] {
+    let any = |test: fn(&f64) -> bool| given.iter().copied().flatten().any(test);
+    [(4, any(|x| !x.is_finite())), (5, any(|x| x.abs() > LIMIT))]
 }
 
 /// `more` holds the clearance of a verdict, or nothing, here and below.
-pub fn point(section: &[f64], point: [f64; 3], more: &[f64]) -> Option<u32> {
-    let mut refusals = Refusals::default();
-    refusals.vertices(section);
-    refusals.numbers(&point);
-    refusals.numbers(more);
-    refusals.0
+pub fn point(section: &[f64], point: [f64; 3], more: &[f64]) -> Result<(), u32> {
+    first(&[&vertices(&[section]), &numbers(&[section, &point, more])])
 }
 
 /// The body is x, y, z, radius.
-pub fn sphere(section: &[f64], body: [f64; 4], more: &[f64]) -> Option<u32> {
-    let mut refusals = Refusals::default();
-    refusals.vertices(section);
-    refusals.numbers(&body);
-    refusals.numbers(more);
-    refusals.note(9, body[3] < 0.0);
-    refusals.0
+pub fn sphere(section: &[f64], body: [f64; 4], more: &[f64]) -> Result<(), u32> {
+    first(&[&vertices(&[section]), &numbers(&[section, &body, more]), &[(9, body[3] < 0.0)]])
 }
 
 /// The body is z0, z1, r0, r1.
-pub fn rectangle(section: &[f64], body: [f64; 4], more: &[f64]) -> Option<u32> {
+pub fn rectangle(section: &[f64], body: [f64; 4], more: &[f64]) -> Result<(), u32> {
     let [z0, z1, r0, r1] = body;
-    let mut refusals = Refusals::default();
-    refusals.vertices(section);
-    refusals.numbers(&body);
-    refusals.numbers(more);
-    refusals.note(10, z1 < z0 || r1 < r0);
-    refusals.0
+    first(&[&vertices(&[section]), &numbers(&[section, &body, more]), &[(10, z1 < z0 || r1 < r0)]])
 }
 
-pub fn convex(convex: &[f64], section: &[f64], more: &[f64]) -> Option<u32> {
-    let mut refusals = Refusals::default();
-    refusals.vertices(convex);
-    refusals.vertices(section);
-    refusals.numbers(more);
-    refusals.0
+pub fn convex(convex: &[f64], section: &[f64], more: &[f64]) -> Result<(), u32> {
+    first(&[&vertices(&[convex, section]), &numbers(&[convex, section, more])])
 }
 
 /// The body is ax, ay, az, bx, by, bz, radius.
-pub fn cylinder(section: &[f64], body: [f64; 7], more: &[f64]) -> Option<u32> {
-    let mut refusals = Refusals::default();
-    refusals.vertices(section);
-    refusals.numbers(&body);
-    refusals.numbers(more);
-    refusals.note(9, body[6] < 0.0);
-    refusals.note(11, !axial_or_radial(body));
-    refusals.0
+pub fn cylinder(section: &[f64], body: [f64; 7], more: &[f64]) -> Result<(), u32> {
+    let own = [(9, body[6] < 0.0), (11, !axial_or_radial(body))];
+    first(&[&vertices(&[section]), &numbers(&[section, &body, more]), &own])
 }
 
 /// The direction is the difference of the ends times the reciprocal of its length; length 0 counts as along z.
@@ -114,30 +92,44 @@ mod tests {
     #[test]
     fn examples_of_the_table() {
         let o = [0.0; 3];
-        assert_eq!(point(&S, o, &[]), None);
-        assert_eq!(point(&[0.0, 10.0, 20.0], o, &[]), Some(1));
-        assert_eq!(point(&S[..4], o, &[]), Some(2));
-        assert_eq!(point(&[], o, &[]), Some(2));
-        assert_eq!(point(&[0.0; 514], o, &[]), Some(3));
-        assert_eq!(point(&[0.0; 512], o, &[]), None);
-        assert_eq!(point(&S, [0.0, 0.0, f64::NAN], &[]), Some(4));
-        assert_eq!(point(&S, [0.0, 0.0, 1_048_577.0], &[]), Some(5));
-        assert_eq!(point(&S, [0.0, 0.0, -1_048_576.0], &[]), None);
-        assert_eq!(sphere(&S, [0.0, 0.0, 0.0, -1.0], &[]), Some(9));
-        assert_eq!(sphere(&S, [0.0, 0.0, 0.0, -0.0], &[]), None);
-        assert_eq!(rectangle(&S, [5.0, 4.0, 0.0, 1.0], &[]), Some(10));
-        assert_eq!(cylinder(&S, [0.0, 0.0, 0.0, 1.0, 0.0, 1.0, 1.0], &[]), Some(11));
-        assert_eq!(cylinder(&S, [0.0, 0.0, 0.0, 0.0, 0.0, 0.0, 1.0], &[]), None);
-        assert_eq!(cylinder(&S, [0.0, 0.0, 0.0, 1e-320, 0.0, 0.0, 1.0], &[]), Some(11));
-        assert_eq!(cylinder(&S, [0.0, 0.0, 0.0, 1e-320, 0.0, 5e-324, 1.0], &[]), None);
+        assert_eq!(point(&S, o, &[]), Ok(()));
+        assert_eq!(point(&[0.0, 10.0, 20.0], o, &[]), Err(1));
+        assert_eq!(point(&S[..4], o, &[]), Err(2));
+        assert_eq!(point(&[], o, &[]), Err(2));
+        assert_eq!(point(&[0.0; 514], o, &[]), Err(3));
+        assert_eq!(point(&[0.0; 512], o, &[]), Ok(()));
+        assert_eq!(point(&S, [0.0, 0.0, f64::NAN], &[]), Err(4));
+        assert_eq!(point(&S, [0.0, 0.0, 1_048_577.0], &[]), Err(5));
+        assert_eq!(point(&S, [0.0, 0.0, -1_048_576.0], &[]), Ok(()));
+        assert_eq!(sphere(&S, [0.0, 0.0, 0.0, -1.0], &[]), Err(9));
+        assert_eq!(sphere(&S, [0.0, 0.0, 0.0, -0.0], &[]), Ok(()));
+        assert_eq!(rectangle(&S, [5.0, 4.0, 0.0, 1.0], &[]), Err(10));
+        assert_eq!(cylinder(&S, [0.0, 0.0, 0.0, 1.0, 0.0, 1.0, 1.0], &[]), Err(11));
+        assert_eq!(cylinder(&S, [0.0, 0.0, 0.0, 0.0, 0.0, 0.0, 1.0], &[]), Ok(()));
+        assert_eq!(cylinder(&S, [0.0, 0.0, 0.0, 1e-320, 0.0, 0.0, 1.0], &[]), Err(11));
+        assert_eq!(cylinder(&S, [0.0, 0.0, 0.0, 1e-320, 0.0, 5e-324, 1.0], &[]), Ok(()));
+    }
+
+    #[test]
+    fn the_first_of_ascending_numbers_is_the_lowest() {
+        for pattern in 0..1 << 11 {
+            let tests: Vec<Test> = (1..=11).map(|number| (number, pattern >> (number - 1) & 1 == 1)).collect();
+            let lowest = tests.iter().filter(|test| test.1).map(|test| test.0).min();
+            for part in 0..=tests.len() {
+                let (front, rest) = tests.split_at(part);
+                assert_eq!(first(&[front, rest]).err(), lowest);
+            }
+        }
+        // Where they do not ascend, the order decides.
+        assert_eq!(first(&[&[(5, false), (18, true), (6, true)]]), Err(18));
     }
 
     #[test]
     fn the_lowest_over_everything() {
-        assert_eq!(convex(&S[..4], &S[..3], &[]), Some(1));
-        assert_eq!(convex(&[0.0; 514], &S[..4], &[]), Some(2));
-        assert_eq!(sphere(&S, [0.0, 0.0, 0.0, -2e6], &[]), Some(5));
-        assert_eq!(sphere(&S, [2e6, 0.0, 0.0, -2.0], &[f64::NAN]), Some(4));
-        assert_eq!(rectangle(&S[..4], [5.0, 4.0, 0.0, f64::NAN], &[]), Some(2));
+        assert_eq!(convex(&S[..4], &S[..3], &[]), Err(1));
+        assert_eq!(convex(&[0.0; 514], &S[..4], &[]), Err(2));
+        assert_eq!(sphere(&S, [0.0, 0.0, 0.0, -2e6], &[]), Err(5));
+        assert_eq!(sphere(&S, [2e6, 0.0, 0.0, -2.0], &[f64::NAN]), Err(4));
+        assert_eq!(rectangle(&S[..4], [5.0, 4.0, 0.0, f64::NAN], &[]), Err(2));
     }
 }

@@ -1,28 +1,33 @@
 -- The calculus of bounds for given values: BoundedValue f j x says that x is finite and at most 2 ^ j ticks, whether the format holds
--- it or not. What an operation makes of such operands is Bounded. Assumes nothing.
+-- it or not. What an operation makes of such operands is Bounded: one rounding of a bounded fraction. One rule an operation.
 use Prim.Native.Nat.{_*_, _+_, _-_, _/_, _<_, _^_, min, suc, zero, ℕ, _≤_}
 use mathlib.Core.Bool.{_&&_, Bool, Bool·beq, cond, false, true}
 use mathlib.Core.Path.{ap, sym, _∙_}
 use native.Mathlib.Nat.{add-le-add, add-mul, div-le-of-le-mul, le-of-eq, le-of-mul-le-mul-right, le-of-suc-le-suc}
-use native.Mathlib.Nat.{le-trans, mul-assoc, mul-comm, mul-le-mul, mul-le-mul-right, mul-mul-mul-comm, mul-pos}
+use native.Mathlib.Nat.{le-trans, min-le-right, mul-assoc, mul-comm, mul-le-mul, mul-le-mul-right, mul-mul-mul-comm, mul-pos}
 use native.Mathlib.Nat.{mul-right-comm, one-mul, two-pow-succ}
 use native.Mathlib.Omega.{arith}
-use lib.Dec.{ltb}
-use lib.Ieee.{add, down, fin, Float, Format, inf, low, mul, nan, neg, prec, round, sub, sum, unlike, up}
-use lib.Ieee.Fits.{down-pos}
+use lib.Dec.{ltb, T}
+use lib.Ieee.{add, down, fin, fits, Float, Format, inf, low, mul, nan, neg, prec, round, sub, sum, unlike, up}
+use lib.Ieee.Fits.{and-i, down-pos}
 use lib.IntN.{ℤ}
 use lib.Pow.{pow-add, pow-lt, pow-mono}
 use Rattle.arith.proofs.Laws.Bounded.{Bounded, bounded-within, mid-lt, overflow}
 use Rattle.arith.proofs.Laws.Bounds.{magnitude-within, Within, within-finiteNumber}
 use Rattle.arith.proofs.Laws.RootBounded.{root-bounded, squares-le}
 use Rattle.roots.proofs.Rounding.Fraction.{rounded, rounded-le}
-use Rattle.roots.proofs.Rounding.Key.{finite-of, mid, prec-pos, representable-of, side, unit, unit-pos}
+use Rattle.roots.proofs.Rounding.Key.{finite-of, finiteNumber, key-is, magnitude, mid, prec-pos, representable-of, side}
+use Rattle.roots.proofs.Rounding.Key.{unit, unit-pos}
 use Rattle.roots.proofs.Rounding.RoundKey.{round-key, round-number}
 use Rattle.roots.proofs.Squares.{square}
 use Rattle.roots.specs.Roots.{hypot}
 
 pub data BoundedValue (f : Format) (j : ℕ) : Float → Type 0 where
   bounded-value : {s : Bool} {m : ℕ} {e : ℤ} → m * up e * unit f ≤ 2 ^ j * down e → BoundedValue f j (fin s m e)
+
+side-within : (M : ℕ) (s : Bool) (t w : ℕ) → t ≤ w → (M ≤ side M s t + w) × (side M s t ≤ M + w)
+side-within M false t w h = omega arith
+side-within M true t w h = omega arith
 
 pub bounded→value : (f : Format) (j : ℕ) (x : Float) → Bounded f j x → BoundedValue f j x
 bounded→value f j nan X = absurd (finite-of f nan (X .sure))
@@ -31,6 +36,22 @@ bounded→value f j (fin s m e) X =
     let x = fin s m e in
     bounded-value (le-trans (le-of-eq (representable-of f x (X .sure) .value .1))
     (mul-le-mul-right (down e) (magnitude-within f (2 ^ j) x (X .sure) (bounded-within f j x X))))
+
+pub value→bounded : (f : Format) (j : ℕ) {x : Float} → T (fits f x) → BoundedValue f j x → Bounded f j x
+value→bounded f j h (bounded-value {s} {m} {e} X) =
+    record { sure = sure; lower = rw (key-is f x) (w .0); upper = rw (key-is f x) (w .1) }
+  where
+    x : Float
+    x = fin s m e
+
+    sure : T (finiteNumber f x)
+    sure = and-i (fits f x) true h tt
+
+    least : magnitude f x ≤ 2 ^ j
+    least = le-of-mul-le-mul-right (le-trans (le-of-eq (sym (representable-of f x sure .value .1))) X) (down-pos e)
+
+    w : (mid f ≤ side (mid f) s (magnitude f x) + 2 ^ j) × (side (mid f) s (magnitude f x) ≤ mid f + 2 ^ j)
+    w = side-within (mid f) s (magnitude f x) (2 ^ j) least
 
 pub value-up : (f : Format) (i j : ℕ) {x : Float} → i ≤ j → BoundedValue f i x → BoundedValue f j x
 value-up f i j h (bounded-value {s} {m} {e} X) = bounded-value (le-trans X (mul-le-mul-right (down e) (pow-mono h)))
@@ -42,7 +63,7 @@ module _ (f : Format) (k : ℕ) (K : k < overflow f) where
       let t : rounded (prec f) (n * unit f) d ≤ 2 ^ k = le-trans (rounded-le (prec f) (n * unit f) d 1 k (prec-pos f) D
       (pow-lt (prec-pos f)) (le-trans h (le-of-eq (ap (λ (z : ℕ). z * d) (sym (one-mul (2 ^ k)))))))
       (le-of-eq (one-mul (2 ^ k))) in
-      let w = signed (mid f) s (rounded (prec f) (n * unit f) d) (2 ^ k) t in
+      let w = side-within (mid f) s (min (mid f) (rounded (prec f) (n * unit f) d)) (2 ^ k) (le-trans (min-le-right _ _) t) in
       let v : Within f (2 ^ k) (round f s n d) = record {
         lower = rw (round-key f s n d) (w .0);
         upper =
@@ -54,10 +75,6 @@ module _ (f : Format) (k : ℕ) (K : k < overflow f) where
             v .lower;
         upper = v .upper;
       }
-    where
-      signed : (M : ℕ) (s : Bool) (t w : ℕ) → t ≤ w → (M ≤ side M s (min M t) + w) × (side M s (min M t) ≤ M + w)
-      signed M false t w h = omega arith
-      signed M true t w h = omega arith
 
   sum-bounded : (s : Bool) (a : ℕ) (t : Bool) (b c : ℕ) → 0 < c → (a + b) * unit f ≤ 2 ^ k * c
       → Bounded f k (sum f s a t b c)
@@ -83,7 +100,7 @@ pow-sum i j (suc k) h l = rw (two-pow-succ k) (add-le-add (pow-mono (le-of-suc-l
     (pow-mono (le-of-suc-le-suc l)))
 pow-sum i j zero h l = let c : ⊥ = omega arith in absurd c
 
-pub neg-value : (f : Format) (j : ℕ) {x : Float} → BoundedValue f j x → BoundedValue f j (neg x)
+neg-value : (f : Format) (j : ℕ) {x : Float} → BoundedValue f j x → BoundedValue f j (neg x)
 unfolding neg
 neg-value f j (bounded-value X) = bounded-value X
 

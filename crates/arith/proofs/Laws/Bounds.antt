@@ -1,19 +1,16 @@
--- Bounds: magnitudes of at most v and w ticks give a result of at most so many ticks. Assumes nothing.
+-- Within f w x: |x| is at most w ticks. What that says of the magnitude, of a rounded fraction and of a quotient.
 use Prim.Native.Nat.{_*_, _+_, _-_, _<_, _^_, ℕ, _≤_}
 use mathlib.Core.Bool.{Bool, false, true}
-use mathlib.Core.Path.{ap, sym, _∙_}
-use native.Mathlib.Nat.{add-mul, le-of-eq, le-trans, mul-add, mul-le-mul, mul-le-mul-left, mul-le-mul-right, mul-one}
+use native.Mathlib.Nat.{mul-le-mul-left, mul-le-mul-right}
 use native.Mathlib.Omega.{arith}
 use lib.Dec.{T}
-use lib.Ieee.{add, div, Float, Format, mul, prec, sub}
-use lib.Pow.{pow-pos}
+use lib.Ieee.{div, Float, Format, prec}
 use Rattle.roots.proofs.Rounding.Fraction.{rounded, rounded-le}
 use Rattle.roots.proofs.Rounding.Key.{finite-inside, finiteNumber, key, key-is, magnitude, magnitude-le, mid}
-use Rattle.roots.proofs.Rounding.Key.{negative, number, number-of, prec-pos, side, unit, unit-pos}
-use Rattle.roots.proofs.Rounding.Product.{mul-key, negativePart, positivePart}
+use Rattle.roots.proofs.Rounding.Key.{negative, number, number-of, prec-pos, side, unit}
+use Rattle.roots.proofs.Rounding.Product.{negativePart, positivePart}
 use Rattle.roots.proofs.Rounding.Quotient.{div-key}
 use Rattle.roots.proofs.Rounding.RoundKey.{roundKey}
-use Rattle.roots.proofs.Rounding.Sum.{add-key, sub-key}
 
 -- ---- |x| is at most w ticks
 pub record Within (f : Format) (w : ℕ) (x : Float) : Type 0 where
@@ -45,33 +42,6 @@ roundKey-within f a b c q j C Q h k =
 
 module _ (f : Format) (q j : ℕ) (Q : q < 2 ^ prec f) (x y : Float) (px : T (finiteNumber f x))
     (py : T (finiteNumber f y)) (v w : ℕ) (X : Within f v x) where
-  pub add-within : Within f w y → v + w ≤ q * 2 ^ j → Within f (q * 2 ^ j) (add f x y)
-  add-within Y l =
-      let z = roundKey-within f (key f x + key f y) (mid f + mid f) 1 q j (pow-pos 0) Q (rw mul-one (omega arith))
-      (rw mul-one (omega arith)) in
-      record { lower = rw (add-key f x y px py) (z .0); upper = rw (add-key f x y px py) (z .1) }
-
-  pub sub-within : Within f w y → v + w ≤ q * 2 ^ j → Within f (q * 2 ^ j) (sub f x y)
-  sub-within Y l =
-      let z = roundKey-within f (key f x) (key f y) 1 q j (pow-pos 0) Q (rw mul-one (omega arith))
-      (rw mul-one (omega arith)) in
-      record { lower = rw (sub-key f x y px py) (z .0); upper = rw (sub-key f x y px py) (z .1) }
-
-  pub mul-within : Within f w y → v * w ≤ q * 2 ^ j * unit f → Within f (q * 2 ^ j) (mul f x y)
-  mul-within Y l =
-      let a = positivePart f x in
-      let b = positivePart f y in
-      let c = negativePart f x in
-      let d = negativePart f y in
-      let A : a + c ≤ v = omega arith in
-      let B : b + d ≤ w = omega arith in
-      let S : a * b + a * d + (c * b + c * d) ≤ q * 2 ^ j * unit f = le-trans
-      (le-of-eq (sym (add-mul a c (b + d) ∙ ap (λ (t : ℕ). t + c * (b + d)) (mul-add a b d) ∙ ap
-      (λ (t : ℕ). a * b + a * d + t) (mul-add c b d)))) (le-trans (mul-le-mul A B) l) in
-      let z = roundKey-within f (a * b + c * d) (a * d + c * b) (unit f) q j (unit-pos f) Q (omega arith)
-      (omega arith) in
-      record { lower = rw (mul-key f x y px py) (z .0); upper = rw (mul-key f x y px py) (z .1) }
-
   pub div-within : 0 < w → mid f + w ≤ key f y → v * unit f ≤ q * 2 ^ j * w → Within f (q * 2 ^ j) (div f x y)
   div-within W Y l =
       let a = positivePart f x in

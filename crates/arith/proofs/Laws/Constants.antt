@@ -1,5 +1,5 @@
 -- Every decimal constant of document 01 is the f64 nearest its decimal, and roots at the edges of the formats, by computation.
--- Assumes nothing.
+--
 use Prim.Native.Nat.{ℕ, _^_}
 use mathlib.Core.Path.{_≡_, refl}
 use mathlib.Core.List.{[], _∷_, map}

@@ -1,4 +1,4 @@
--- How deep an interval can be halved: each half is half as wide, to within the rounding of its middle. Assumes nothing.
+-- How deep an interval can be halved: each half is half as wide, to within the rounding of its middle.
 use Prim.Native.Nat.{_*_, _+_, _-_, _<_, _^_, suc, zero, ℕ, _≤_}
 use mathlib.Core.Logic.{inl, inr}
 use mathlib.Core.Path.{ap, subst, sym, _∙_, _≡_}
@@ -39,7 +39,7 @@ pub level-start : (W e : ℕ) → Level W e 0 W
 level-start W e = record { held = rw (one-mul (2 * W)) (omega arith) }
 
 -- half of it, to within e / 4, is one deeper
-pub level-half : (W e i w w' : ℕ) → 4 * w' ≤ 2 * w + e → Level W e i w → Level W e (suc i) w'
+level-half : (W e i w w' : ℕ) → 4 * w' ≤ 2 * w + e → Level W e i w → Level W e (suc i) w'
 level-half W e i w w' h l =
     let P = 2 ^ i in
     let x : P * (4 * w') ≤ P * (2 * w + e) = mul-le-mul-left P h in
@@ -62,7 +62,7 @@ level-down W e i w l =
     (l .held) in
     record { held = omega arith }
 
-pub level-reach : (W e n i w : ℕ) → n ≤ i → Level W e i w → Level W e n w
+level-reach : (W e n i w : ℕ) → n ≤ i → Level W e i w → Level W e n w
 level-reach W e n zero w g l = subst (λ (z : ℕ). Level W e z w) (let z : 0 ≡ n = omega arith in z) l
 level-reach W e n (suc i) w g l = elim (eq-or-lt-of-le g) [
   | inl z ↦ subst (λ (x : ℕ). Level W e x w) (sym z) l
@@ -74,7 +74,7 @@ pub level-wide : (W W' e i w : ℕ) → W ≤ W' → Level W e i w → Level W' 
 level-wide W W' e i w h l = record { held = omega arith }
 
 -- an interval wider than t is not as deep as n
-pub level-stop : (W e n t i w : ℕ) → 2 * W + 2 ^ n * e < 2 ^ n * (2 * t) → t ≤ w → Level W e i w → i < n
+level-stop : (W e n t i w : ℕ) → 2 * W + 2 ^ n * e < 2 ^ n * (2 * t) → t ≤ w → Level W e i w → i < n
 level-stop W e n t i w h k l = elim (decide n i) [
   | inl g ↦ absurd (not-le-of-lt
       (lt-of-lt-of-le h (mul-le-mul-left (2 ^ n) (two-le t w k))) (level-reach W e n i w g l .held))
@@ -85,7 +85,7 @@ level-stop W e n t i w h k l = elim (decide n i) [
     two-le t w k = omega arith
 
 -- ---- a rounded width above c is an exact width above c
-pub width-above : (f : Format) (a b c : Float) → T (finiteNumber f a) → T (finiteNumber f b) → T (finiteNumber f c)
+width-above : (f : Format) (a b c : Float) → T (finiteNumber f a) → T (finiteNumber f b) → T (finiteNumber f c)
     → key f c < key f (sub f b a) → key f c + key f a < key f b + mid f
 width-above f a b c p q r h = elim (decide (key f b + mid f) (key f c + key f a)) [
   | inl g ↦ absurd (not-le-of-lt h (le-trans (le-of-eq (sub-key f b a q p))

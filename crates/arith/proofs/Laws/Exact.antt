@@ -1,5 +1,6 @@
--- What has few enough digits is its own rounding: x itself, x + c against x, twice x; and two values of one sign and size are one.
--- Assumes nothing.
+-- What has few enough digits is its own rounding: x itself, x + c and x - c against x, twice x; and two values of one sign and size
+-- are one.
+--
 use Prim.Native.Nat.{_*_, _+_, _-_, _/_, _<_, _^_, min, suc, ℕ, _≤_}
 use mathlib.Core.Bool.{Bool, cond, false, not, true}
 use mathlib.Core.Path.{ap, refl, subst, sym, _∙_, _≡_}
@@ -7,7 +8,7 @@ use native.Mathlib.Nat.{le-of-eq, le-of-lt, le-trans, min-eq-right, mul-add, mul
 use native.Mathlib.Nat.{two-pow-succ}
 use native.Mathlib.Omega.{arith}
 use lib.Dec.{T}
-use lib.Ieee.{add, down, fin, fits, Float, Format, hid, inf, isNan, low, nan, prec, size, toBits, top, le}
+use lib.Ieee.{add, down, fin, fits, Float, Format, hid, inf, isNan, low, nan, prec, size, sub, toBits, top, le}
 use lib.Ieee.Bits.{ofBits-toBits}
 use lib.Ieee.Exact.{HasValue}
 use lib.Ieee.Fits.{and-l, and-r, down-pos}
@@ -17,8 +18,9 @@ use Rattle.roots.proofs.Rounding.Fraction.{rounded, rounded-fix}
 use Rattle.roots.proofs.Rounding.Key.{finiteNumber, key, key-is, magnitude, magnitude-le, mid, negative}
 use Rattle.roots.proofs.Rounding.Key.{number, number-of, Representable, representable, representable-of, side, unit}
 use Rattle.roots.proofs.Rounding.RoundKey.{Difference, roundKey, roundKey-mono, roundKey-side}
-use Rattle.roots.proofs.Rounding.Sum.{add-key, add-number}
+use Rattle.roots.proofs.Rounding.Sum.{add-key, add-number, sub-key}
 use Rattle.roots.proofs.Rounding.KeyOrder.{key→le}
+use Rattle.arith.proofs.Laws.OrderHeld.{number-held}
 
 -- ---- fixed points: (a - b) / c is the signed n = q * 2 ^ j
 pub roundKey-fix : (f : Format) (s : Bool) (q j a b c : ℕ) → 0 < c → q < 2 ^ prec f → Difference s (q * 2 ^ j * c) a b
@@ -53,7 +55,15 @@ add-ge f x c p q h =
     (key f x) (mid f) 1 (key f x + key f c) (mid f + mid f) 1 (pow-pos 0) (pow-pos 0) (omega arith) in
     le-trans (le-of-eq (sym (roundKey-self f x p))) (le-trans e (le-of-eq (sym (add-key f x c p q))))
 
--- the same in the order of floats
+-- x - c is no more than x
+pub sub-le : (f : Format) (x c : Float) → T (finiteNumber f x) → T (finiteNumber f c) → mid f ≤ key f c
+    → key f (sub f x c) ≤ key f x
+sub-le f x c p q h =
+    le-trans (le-of-eq (sub-key f x c p q))
+    (le-trans (roundKey-mono f (key f x) (key f c) 1 (key f x) (mid f) 1 (pow-pos 0) (pow-pos 0) (omega arith))
+    (le-of-eq (roundKey-self f x p)))
+
+-- x ≤ x + c in the order of floats
 pub add-not-less : (f : Format) (x c : Float) → T (finiteNumber f x) → T (finiteNumber f c) → mid f ≤ key f c
     → T (le x (add f x c))
 add-not-less f x c p q h = key→le f x (add f x c) (number-of f x p) (add-number f x c p q) (add-ge f x c p q h)
@@ -122,14 +132,10 @@ one-of-size f (inf s) (fin t n j) p q e k = absurd (below-mid f t n j q k)
 one-of-size f (fin s m i) nan p q e k = absurd (and-r (fits f nan) false q)
 one-of-size f (fin s m i) (inf t) p q e k = absurd (below-mid f s m i p (sym k))
 one-of-size f (fin s m i) (fin t n j) p q e k =
-    value-unique f (fin s m i) (fin t n j) s (magnitude f (fin s m i)) (held (fin s m i) p)
-    (held (fin t n j) q)
-    (finite-value f s m i p .value)
+    value-unique f (fin s m i) (fin t n j) s (magnitude f (fin s m i)) (number-held f (fin s m i) p)
+    (number-held f (fin t n j) q) (finite-value f s m i p .value)
     (subst (λ (b : Bool). HasValue (fin t n j) b (magnitude f (fin s m i)) (2 ^ low f)) (sym e)
     (subst (λ (a : ℕ). HasValue (fin t n j) t a (2 ^ low f)) (sym k) (finite-value f t n j q .value)))
-  where
-    held : (x : Float) → T (number f x) → T (fits f x)
-    held x h = and-l (fits f x) (not (isNan x)) h
 
 pub key-unique : (f : Format) (x y : Float) → T (number f x) → T (number f y) → negative x ≡ negative y
     → key f x ≡ key f y → x ≡ y

@@ -1,4 +1,5 @@
--- hypot: symmetric, blind to signs, a number for numbers, monotone in each magnitude, at least each magnitude. Assumes nothing.
+-- hypot: symmetric, blind to signs, a number for numbers, monotone in each magnitude, at least each magnitude. Of finite values it is
+-- the root of a sum of squares; an infinity is a case of its own.
 use Prim.Native.Nat.{_*_, _+_, _^_, suc, zero, ℕ, _≤_}
 use mathlib.Core.Bool.{Bool, false, true}
 use mathlib.Core.Path.{ap, refl, subst, sym, _∙_, _≡_}
@@ -54,9 +55,6 @@ hypot-unsigned f (fin s m e) nan = refl
 hypot-unsigned f (fin s m e) (inf t) = refl
 hypot-unsigned f (fin s m e) (fin t n d) = refl
 
-pub hypot-unsigned-right : (f : Format) (x y : Float) → hypot f x (unsigned y) ≡ hypot f x y
-hypot-unsigned-right f x y = hypot-comm f x (unsigned y) ∙ hypot-unsigned f y x ∙ hypot-comm f y x
-
 pub hypot-neg-right : (f : Format) (x y : Float) → hypot f x (neg y) ≡ hypot f x y
 hypot-neg-right f x y = hypot-comm f x (neg y) ∙ hypot-neg f y x ∙ hypot-comm f y x
 
@@ -96,7 +94,7 @@ pub hypot-infinite : (f : Format) (s : Bool) (y : Float) → hypot f (inf s) y �
 unfolding hypot
 hypot-infinite f s y = refl
 
-pub hypot-inf : (f : Format) (x y : Float) (s : Bool) → x ≡ inf s → hypot f x y ≡ inf false
+hypot-inf : (f : Format) (x y : Float) (s : Bool) → x ≡ inf s → hypot f x y ≡ inf false
 hypot-inf f x y s e = ap (λ (z : Float). hypot f z y) e ∙ hypot-infinite f s y
 
 pub hypot-number : (f : Format) (x y : Float) → T (number f x) → T (number f y) → T (number f (hypot f x y))
@@ -226,13 +224,6 @@ hypot-mono f x x' y y' p p' q q' h k = go (kind f x' p') (kind f y' q')
         (magnitude f x' * magnitude f x' + magnitude f y' * magnitude f y')
         (add-le-add (mul-le-mul X X) (mul-le-mul Y Y)))
         (le-of-eq (ap (λ (z : Float). key f z) (sym (hypot-root f x' y' a c))))))
-
-pub le-self : (f : Format) (x : Float) → T (number f x) → T (le x x)
-le-self f x p = key→le f x x p p (le-refl (key f x))
-
-pub hypot-mono-left : (f : Format) (x x' y : Float) → T (number f x) → T (number f x') → T (number f y)
-    → T (le (unsigned x) (unsigned x')) → T (le (hypot f x y) (hypot f x' y))
-hypot-mono-left f x x' y p p' q h = hypot-mono f x x' y y p p' q q h (le-self f (unsigned y) (unsigned-number f y q))
 
 pub hypot-fits : (f : Format) (x y : Float) → T (fits f (hypot f x y))
 unfolding hypot

@@ -1,8 +1,8 @@
 -- The greatest hypot of a rectangle's four corners is that of the corner which lies farther from 0 along both axes, so that one root
--- stands for four. Assumes nothing.
+-- stands for four.
 use Prim.Native.Nat.{_+_, _<_, ℕ, _≤_}
 use mathlib.Core.Bool.{Bool, cond, false, not, true}
-use mathlib.Core.Path.{_≡_, ap, refl, subst, sym, _∙_}
+use mathlib.Core.Path.{_≡_, ap, refl, sym, _∙_}
 use native.Mathlib.Nat.{le-antisymm, le-refl}
 use native.Mathlib.Omega.{arith}
 use lib.Dec.{T}
@@ -19,7 +19,7 @@ use Rattle.arith.proofs.Laws.Order.{nle→key}
 use Rattle.arith.proofs.Laws.OrderHeld.{T→true, true→T, held-number, le-left, le-right}
 
 -- of the ends lo and hi the one farther from 0
-abbrev pub farther : Float → Float → Float
+abbrev farther : Float → Float → Float
 farther lo hi = cond (le hi (neg lo)) lo hi
 
 -- ---- its size is no less than either end's

@@ -1,17 +1,17 @@
--- hypot and sqrt of finite numbers as roots of whole numbers, by keys. Assumes nothing.
+-- hypot and sqrt of finite numbers as roots of whole numbers, by keys; no root is negative.
 use Prim.Native.Nat.{_*_, _+_, _-_, _<_, ℕ, _≤_}
 use mathlib.Core.Bool.{Bool, false, true}
-use mathlib.Core.Path.{ap, sym, _≡_}
-use native.Mathlib.Nat.{add-le-add, le-of-eq, lt-of-lt-of-le, mul-le-mul, not-le-of-lt, zero-add, zero-lt-suc}
+use mathlib.Core.Path.{sym, _≡_}
+use native.Mathlib.Nat.{le-of-eq, lt-of-lt-of-le, not-le-of-lt, zero-add, zero-lt-suc}
 use native.Mathlib.Omega.{arith}
 use lib.Dec.{T}
 use lib.Ieee.{fin, Float, Format, inf, nan}
 use Rattle.arith.proofs.Laws.Hypot.{hypot-root, sqrt-root}
 use Rattle.arith.proofs.Laws.Monotone.{keySize}
-use Rattle.arith.proofs.Laws.RootKey.{root-key, root-mono, root-number}
+use Rattle.arith.proofs.Laws.RootKey.{root-key}
 use Rattle.roots.proofs.Root.Sticky.{stickyRoot}
 use Rattle.roots.proofs.Rounding.Key.{finite-of, finiteNumber, key, key-is, magnitude, magnitude-le, mid}
-use Rattle.roots.proofs.Rounding.Key.{negative, number, number-of, side, unit}
+use Rattle.roots.proofs.Rounding.Key.{negative, number-of, side, unit}
 use Rattle.roots.proofs.Rounding.Product.{positivePart, positivePart-is}
 use Rattle.roots.proofs.Rounding.RoundKey.{roundKey-side}
 use Rattle.roots.specs.Roots.{hypot, root, sqrt}
@@ -50,21 +50,3 @@ root-not-negative f N = rw (
   roundKey-side f false (stickyRoot N) (stickyRoot N) 0 4 (zero-lt-suc 3)
       (sym (zero-add (stickyRoot N))),
 ) (omega arith)
-
--- ---- hypot grows with the keySize of each leg
-pub hypot-key : (f : Format) (x y : Float) → T (finiteNumber f x) → T (finiteNumber f y)
-    → key f (hypot f x y) ≡ key f (root f (keySize f x * keySize f x + keySize f y * keySize f y))
-hypot-key f x y p q = ap (λ (z : Float). key f z) (hypot-is f x y p q)
-
-pub hypot-number-finite : (f : Format) (x y : Float) → T (finiteNumber f x) → T (finiteNumber f y)
-    → T (number f (hypot f x y))
-hypot-number-finite f x y p q = rw (hypot-is f x y p q) (root-number f
-    (keySize f x * keySize f x + keySize f y * keySize f y))
-
-pub hypot-key-mono : (f : Format) (x x' y y' : Float) → T (finiteNumber f x) → T (finiteNumber f x')
-    → T (finiteNumber f y) → T (finiteNumber f y') → keySize f x ≤ keySize f x' → keySize f y ≤ keySize f y'
-    → key f (hypot f x y) ≤ key f (hypot f x' y')
-hypot-key-mono f x x' y y' p p' q q' h k =
-    rw (hypot-key f x y p q, hypot-key f x' y' p' q')
-    (root-mono f (keySize f x * keySize f x + keySize f y * keySize f y)
-    (keySize f x' * keySize f x' + keySize f y' * keySize f y') (add-le-add (mul-le-mul h h) (mul-le-mul k k)))

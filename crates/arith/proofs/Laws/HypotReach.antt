@@ -1,13 +1,14 @@
 -- A hypot is no less than any number that one leg's size reaches, so that a point which is no nearer along one axis alone needs no
--- root. By hypot's own bound, and by cases where an operand is no number. Assumes nothing.
-use Prim.Native.Nat.{_+_, _-_, ℕ, _≤_}
+-- root. By hypot's own bound, and by cases where an operand is no number.
+use Prim.Native.Nat.{_+_, ℕ, _≤_}
 use mathlib.Core.Bool.{Bool, cond, false, true, not}
-use mathlib.Core.Path.{_≡_, ap, refl, subst, sym, _∙_}
+use mathlib.Core.Path.{_≡_, ap, refl, subst, _∙_}
 use native.Mathlib.Omega.{arith}
 use lib.Dec.{T}
 use lib.Ieee.{eq, fin, fits, Float, Format, inf, isNan, le, lt, nan, neg}
 use lib.Ieee.Fits.{neg-fits}
 use Rattle.roots.specs.Roots.{hypot}
+use Rattle.roots.proofs.Pattern.Special.{like-itself}
 use Rattle.roots.proofs.Rounding.Key.{key-is, magnitude, mid, negative, number, side}
 use Rattle.roots.proofs.Rounding.KeyOrder.{key→le}
 use Rattle.arith.specs.F64.{𝟘}
@@ -33,12 +34,6 @@ module _ (f : Format) (b x y : Float) (B : T (number f b)) (X : T (number f x)) 
 
   over : le b x ≡ true → lt (hypot f x y) b ≡ false
   over e = lt-is-not-le f (hypot f x y) b (hypot-number f x y X Y) B ∙ ap not (reached e)
-
-like-number : (x : Float) → eq x x ≡ true → T (not (isNan x))
-unfolding eq isNan
-like-number nan e = absurd (true→T e)
-like-number (inf s) e = tt
-like-number (fin s m i) e = tt
 
 pub no-number-less : (f : Format) (b x : Float) → lt (hypot f x nan) b ≡ false
 unfolding lt hypot
@@ -82,7 +77,7 @@ module _ (f : Format) where
     -- y is like itself, and so no NaN
     pub hypot-reaches : T (fits f y) → eq y y ≡ true → le b (abs x) ≡ true → le b (hypot f x y) ≡ true
     hypot-reaches Y s =
-        either (λ d. le b d ≡ true) (λ z Z e. leg-reaches b z (true→T B) Z e y (held-number f y Y (like-number y s)))
+        either (λ d. le b d ≡ true) (λ z Z e. leg-reaches b z (true→T B) Z e y (held-number f y Y (like-itself y s)))
 
   module _ (b x y : Float) (B : fits f b ≡ true) (Y : T (fits f y)) where
     pub hypot-not-less-right : T (fits f x) → le b (abs y) ≡ true → lt (hypot f x y) b ≡ false

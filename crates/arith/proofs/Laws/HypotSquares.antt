@@ -1,6 +1,6 @@
 -- A hypot is no less than b where the sum of its legs' squares, as rounded, exceeds b's square with a margin for the roundings. By the
--- share that a rounding errs by: if the exact sum were below b's square, the rounded one could not exceed it so far. Assumes nothing.
-use Prim.Native.Nat.{_*_, _+_, _-_, _/_, _<_, _^_, min, ℕ, _≤_}
+-- share that a rounding errs by: if the exact sum were below b's square, the rounded one could not exceed it so far.
+use Prim.Native.Nat.{_*_, _+_, _-_, _<_, _^_, min, ℕ, _≤_}
 use mathlib.Core.Bool.{Bool, false, true}
 use mathlib.Core.Logic.{inl, inr}
 use mathlib.Core.Path.{_≡_, ap, refl, subst, sym, _∙_}

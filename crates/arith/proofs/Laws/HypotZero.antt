@@ -1,4 +1,4 @@
--- A root is exact at squares; so hypot(x, 0) is |x|. Assumes nothing.
+-- A root is exact at squares, for the root of a square is its own rounding; so hypot(x, 0) is |x|.
 use Prim.Native.Nat.{_*_, _+_, _/_, _<_, _^_, suc, ℕ}
 use mathlib.Core.Bool.{Bool, false, not, true}
 use mathlib.Core.Path.{ap, refl, subst, sym, _∙_, _≡_}

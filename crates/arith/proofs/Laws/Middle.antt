@@ -1,4 +1,4 @@
--- Halving, and the middle (a + b) * 0.5: it lies between a and b. Assumes nothing.
+-- Halving, and the middle (a + b) * 0.5: it lies between a and b, since 2a and 2b are their own roundings and rounding is monotone.
 use Prim.Native.Nat.{_*_, _+_, _<_, _^_, min, suc, zero, ℕ, _≤_}
 use mathlib.Core.Bool.{Bool, false, true}
 use mathlib.Core.Path.{ap, refl, subst, sym, _∙_, _≡_}
@@ -23,7 +23,7 @@ use Rattle.roots.proofs.Rounding.Sum.{add-key, add-number}
 unfoldable pub IsHalf : Format → Float → Type 0
 IsHalf f h = T (finiteNumber f h) × (mid f ≤ key f h) × (positivePart f h + positivePart f h ≡ unit f)
 
-pub half-key : (f : Format) (x h : Float) → T (finiteNumber f x) → IsHalf f h
+half-key : (f : Format) (x h : Float) → T (finiteNumber f x) → IsHalf f h
     → key f (mul f x h) ≡ roundKey f (key f x) (mid f) 2
 unfolding IsHalf
 half-key f x h p i =

@@ -1,8 +1,10 @@
--- Each operation is monotone where the exact one is: sums, differences, negation, products, squares and quotients. Assumes nothing.
+-- Each operation is monotone where the exact one is: sums, differences, negation, products, squares and quotients. Each key is one
+-- rounding, and rounding is monotone.
 use Prim.Native.Nat.{_*_, _+_, _-_, _<_, ℕ, _≤_}
+use mathlib.Core.Bool.{false}
 use mathlib.Core.Logic.{inl, inr, _⊎_}
 use mathlib.Core.Path.{ap, refl, sym, _∙_, _≡_}
-use native.Mathlib.Nat.{add-mul, add-zero, le-of-eq, le-trans, mul-le-mul, mul-le-mul-left, mul-le-mul-right, mul-zero}
+use native.Mathlib.Nat.{add-mul, add-zero, le-of-eq, le-trans, mul-le-mul, mul-le-mul-right, mul-zero}
 use native.Mathlib.Nat.{zero-add, zero-mul}
 use native.Mathlib.Omega.{arith}
 use lib.Dec.{T}
@@ -13,7 +15,7 @@ use Rattle.roots.proofs.Rounding.Key.{finiteNumber, key, mid, number, number-of
 use Rattle.roots.proofs.Rounding.KeyOrder.{key→le, le→key}
 use Rattle.roots.proofs.Rounding.Product.{mul-key, negativePart, positivePart, mul-number}
 use Rattle.roots.proofs.Rounding.Quotient.{div-key, div-number}
-use Rattle.roots.proofs.Rounding.RoundKey.{roundKey, roundKey-mono}
+use Rattle.roots.proofs.Rounding.RoundKey.{roundKey, roundKey-mono, roundKey-side}
 use Rattle.roots.proofs.Rounding.Sum.{add-key, add-number, neg-key, sub-key, sub-number, neg-finiteNumber}
 
 -- (a + b) ≤ (c + d) times C times u
@@ -45,7 +47,7 @@ module _ (f : Format) (x x' y y' : Float) (p : T (finiteNumber f x)) (p' : T (fi
       (sub-key-mono (le→key f x x' (number-of f x p) (number-of f x' p') h)
       (le→key f y' y (number-of f y' q') (number-of f y q) k))
 
-pub neg-anti : (f : Format) (x y : Float) → T (number f x) → T (number f y) → key f x ≤ key f y
+neg-anti : (f : Format) (x y : Float) → T (number f x) → T (number f y) → key f x ≤ key f y
     → key f (neg y) ≤ key f (neg x)
 neg-anti f x y p q h = omega (arith, neg-key f x p, neg-key f y q)
 
@@ -64,7 +66,7 @@ times-key f x c p q h =
     )
 
 -- x ≤ x' over a common factor
-pub times-key-mono : (f : Format) (x x' c : Float) → T (finiteNumber f x) → T (finiteNumber f x') → T (finiteNumber f c)
+times-key-mono : (f : Format) (x x' c : Float) → T (finiteNumber f x) → T (finiteNumber f x') → T (finiteNumber f c)
     → mid f ≤ key f c → key f x ≤ key f x' → key f (mul f x c) ≤ key f (mul f x' c)
 times-key-mono f x x' c p p' q h l =
     let C = positivePart f c in
@@ -73,32 +75,6 @@ times-key-mono f x x' c p p' q h l =
     (roundKey-mono f (positivePart f x * C) (negativePart f x * C) (unit f) (positivePart f x' * C)
     (negativePart f x' * C) (unit f) (unit-pos f) (unit-pos f)
     (lift (positivePart f x) (negativePart f x') (positivePart f x') (negativePart f x) C (unit f) e))
-
--- both factors grow, all ≥ 0
-pub product-key-mono : (f : Format) (x x' y y' : Float) → T (finiteNumber f x) → T (finiteNumber f x')
-    → T (finiteNumber f y) → T (finiteNumber f y') → mid f ≤ key f x → mid f ≤ key f y → key f x ≤ key f x'
-    → key f y ≤ key f y' → key f (mul f x y) ≤ key f (mul f x' y')
-product-key-mono f x x' y y' p p' q q' a b h k =
-    let z : negativePart f x ≡ 0 = omega arith in
-    let z' : negativePart f x' ≡ 0 = omega arith in
-    let c : mid f ≤ key f y' = omega arith in
-    let u : positivePart f x ≤ positivePart f x' = omega arith in
-    let v : positivePart f y ≤ positivePart f y' = omega arith in
-    rw (
-      times-key f x y p q b,
-      times-key f x' y' p' q' c,
-      z,
-      z',
-      zero-mul (positivePart f y),
-      zero-mul
-          (positivePart f y'),
-    )
-    (roundKey-mono f (positivePart f x * positivePart f y) 0 (unit f) (positivePart f x' * positivePart f y') 0 (unit f)
-    (unit-pos f) (unit-pos f) (rw (
-      zero-mul (unit f),
-      add-zero (positivePart f x * positivePart f y * unit f),
-      add-zero (positivePart f x' * positivePart f y' * unit f),
-    ) (mul-le-mul-right (unit f) (mul-le-mul u v))))
 
 -- ---- squares: by the distance from zero, whatever the sign
 unfoldable pub keySize : Format → Float → ℕ
@@ -120,6 +96,11 @@ square-key f x p =
     x * positivePart f x) (unit f)) (z .0) ∙ ap (λ (w : ℕ). roundKey f (keySize f x * keySize f x) w (unit f))
     (z .1)
 
+pub square-not-negative : (f : Format) (x : Float) → T (finiteNumber f x) → mid f ≤ key f (mul f x x)
+square-not-negative f x p =
+    let q = keySize f x * keySize f x in
+    rw (square-key f x p, roundKey-side f false q q 0 (unit f) (unit-pos f) (sym (zero-add q))) (omega arith)
+
 pub square-key-mono : (f : Format) (x y : Float) → T (finiteNumber f x) → T (finiteNumber f y)
     → keySize f x ≤ keySize f y → key f (mul f x x) ≤ key f (mul f y y)
 square-key-mono f x y p q h =
@@ -133,7 +114,7 @@ square-key-mono f x y p q h =
     ) (mul-le-mul-right (unit f) (mul-le-mul h h))))
 
 -- ---- a quotient by y > 0
-pub div-key-mono : (f : Format) (x x' y : Float) → T (finiteNumber f x) → T (finiteNumber f x') → T (finiteNumber f y)
+div-key-mono : (f : Format) (x x' y : Float) → T (finiteNumber f x) → T (finiteNumber f x') → T (finiteNumber f y)
     → mid f < key f y → key f x ≤ key f x' → key f (div f x y) ≤ key f (div f x' y)
 div-key-mono f x x' y p p' q h l =
     let e : positivePart f x + negativePart f x' ≤ positivePart f x' + negativePart f x = omega arith in
@@ -142,27 +123,6 @@ div-key-mono f x x' y p p' q h l =
     (roundKey-mono f (positivePart f x * unit f) (negativePart f x * unit f) (positivePart f y)
     (positivePart f x' * unit f) (negativePart f x' * unit f) (positivePart f y) w w
     (lift (positivePart f x) (negativePart f x') (positivePart f x') (negativePart f x) (unit f) (positivePart f y) e))
-
--- x ≥ 0 over a greater divisor is no greater
-pub div-key-anti : (f : Format) (x y y' : Float) → T (finiteNumber f x) → T (finiteNumber f y) → T (finiteNumber f y')
-    → mid f ≤ key f x → mid f < key f y → key f y ≤ key f y' → key f (div f x y') ≤ key f (div f x y)
-div-key-anti f x y y' p q q' a h l =
-    let h' : mid f < key f y' = omega arith in
-    let z : negativePart f x ≡ 0 = omega arith in
-    let w : 0 < positivePart f y = omega arith in
-    let w' : 0 < positivePart f y' = omega arith in
-    rw (div-key f x y p q h, div-key f x y' p q' h', z, zero-mul (unit f))
-    (roundKey-mono f (positivePart f x * unit f) 0 (positivePart f y') (positivePart f x * unit f) 0 (positivePart f y)
-    w' w
-    (rw (
-      zero-mul (positivePart f y'),
-      zero-mul (positivePart f y),
-      add-zero
-          (positivePart f x * unit f * positivePart f y),
-      add-zero (positivePart f x * unit f * positivePart f y'),
-    )
-    (mul-le-mul-left (positivePart f x * unit f) (let c : positivePart f y ≤ positivePart f y' = omega arith in
-    c))))
 
 -- ---- the same in the order of floats; a sign is told by the key of zero, mid
 module _ (f : Format) (x y : Float) (p : T (finiteNumber f x)) (q : T (finiteNumber f y)) (h : T (le x y)) where

@@ -1,5 +1,5 @@
 -- THE ROOT IS NEAREST: among all numbers of the format none is nearer to the exact root, and at a tie it is even. An infinity stands
--- for the first power of two past the range, as in IEEE 754's rounding; so overflow is covered too. Assumes nothing.
+-- for the first power of two past the range, as in IEEE 754's rounding; so overflow is covered too.
 use Prim.Native.Nat.{_%_, _*_, _+_, _-_, _<_, _^_, min, ℕ, zero, suc, _≤_}
 use mathlib.Core.Bool.{Bool, cond, false, true}
 use mathlib.Core.Logic.{_⊎_, inl, inr}
@@ -19,7 +19,7 @@ use Rattle.roots.proofs.Rounding.Key.{key, key-is, magnitude, magnitude-le, mid
 use Rattle.roots.proofs.Rounding.Key.{prec-pos, representable-of, side}
 use Rattle.roots.proofs.Rounding.Nearest.{rounded-nearest-above, rounded-nearest-below, rounded-tie-even}
 use Rattle.roots.proofs.Rounding.RoundKey.{roundKey-side}
-use Rattle.roots.specs.Core.{sq}
+use Rattle.roots.specs.Steps.{sq}
 use Rattle.roots.specs.Roots.{root}
 
 -- x's last digit is 0: its magnitude is q * 2 ^ j with 2 ^ j its last place and q even

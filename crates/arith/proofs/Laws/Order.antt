@@ -1,19 +1,19 @@
--- The order of floats: total on numbers, transitive, and what min, max and clamp are in it. Assumes nothing.
-use Prim.Native.Nat.{_*_, _+_, _<_, max, min, suc, ℕ, _≤_}
+-- The order of floats: total on numbers, transitive, and what min, max and clamp are in it. On numbers it is the order of keys.
+use Prim.Native.Nat.{_*_, _+_, _<_, max as maxℕ, min as minℕ, suc, ℕ, _≤_}
 use mathlib.Core.Bool.{Bool, cond, false, not, true, Bool·beq, _||_}
 use mathlib.Core.Logic.{inl, inr, _⊎_}
 use mathlib.Core.Path.{ap, refl, subst, sym, _∙_, _≡_}
-use native.Mathlib.Nat.{le-antisymm, not-le-of-lt, zero-mul}
+use native.Mathlib.Nat.{le-antisymm, le-refl, not-le-of-lt, zero-mul}
 use native.Mathlib.Omega.{arith}
-use lib.Dec.{leb, leb→le, ltb, ltb→lt, lt→ltb, nleb→lt, T}
-use lib.Ieee.{below, down, eq, fin, Float, Format, le, level, lt, up}
+use lib.Dec.{leb, leb→le, le→leb, ltb, ltb→lt, lt→ltb, nleb→lt, T}
+use lib.Ieee.{down, eq, fin, Float, Format, inf, le, lt, nan, up}
 use lib.Ieee.Fits.{eq→eqb}
 use Rattle.roots.proofs.Numbers.{decide}
 use Rattle.roots.proofs.Rounding.Key.{key, number, side}
 use Rattle.roots.proofs.Rounding.KeyOrder.{eq-key, key→le, key→lt, le-key, le→key, lt-key, lt→key, nlt→key, side-eq}
 use Rattle.roots.proofs.Rounding.KeyOrder.{side-lt}
 use Rattle.roots.proofs.Tests.{lt-or-eq}
-use Rattle.arith.specs.Num.{clamp}
+use Rattle.arith.specs.Num.{clamp, isFinite, max, min}
 use lib.IntN.{ℤ}
 
 flip : (a b : ℕ) → ltb a b ≡ not (leb b a)
@@ -43,21 +43,36 @@ module _ (f : Format) (x y z : Float) (p : T (number f x)) (q : T (number f y)) 
   pub lt-le-trans : T (lt x y) → T (le y z) → T (lt x z)
   lt-le-trans h k = key→lt f x z p r (omega (arith, lt→key f x y p q h, le→key f y z q r k))
 
--- lt is not-le turned round for any two finite values, whatever the format
-pub finite-lt-is-not-le : (s t : Bool) (m n : ℕ) (e d : ℤ)
-    → lt (fin s m e) (fin t n d) ≡ not (le (fin t n d) (fin s m e))
-unfolding lt le eq
-finite-lt-is-not-le s t m n e d = go (m * up e * down d) (n * up d * down e)
-  where
-    go : (a b : ℕ) → below s a t b ≡ not (below t b s a || level t b s a)
-    go a b =
-        let M = suc (a + b) in
-        rw (
-          side-lt M a b (omega arith) (omega arith) (omega arith) s t,
-          side-lt M b a (omega arith) (omega arith) (omega arith) t s,
-          side-eq M b a (omega arith) (omega arith) (omega arith) t s,
-          lt-or-eq (side M t b) (side M s a),
-        ) (flip (side M s a) (side M t b))
+-- ---- of any two finite values, whatever the format: both over one denominator
+module _ (s t : Bool) (m n : ℕ) (e d : ℤ) where
+  abbrev left : ℕ
+  left = m * up e * down d
+
+  abbrev right : ℕ
+  right = n * up d * down e
+
+  abbrev place : Bool → ℕ → ℕ
+  place s a = side (suc (left + right)) s a
+
+  pub finite-le : le (fin s m e) (fin t n d) ≡ leb (place s left) (place t right)
+  unfolding le eq lt
+  finite-le =
+      let M = suc (left + right) in
+      rw (
+        side-lt M left right (omega arith) (omega arith) (omega arith) s t,
+        side-eq M left right (omega arith) (omega arith) (omega arith) s t,
+      ) (lt-or-eq (place s left) (place t right))
+
+  pub finite-lt-is-not-le : lt (fin s m e) (fin t n d) ≡ not (le (fin t n d) (fin s m e))
+  unfolding lt le eq
+  finite-lt-is-not-le =
+      let M = suc (left + right) in
+      rw (
+        side-lt M left right (omega arith) (omega arith) (omega arith) s t,
+        side-lt M right left (omega arith) (omega arith) (omega arith) t s,
+        side-eq M right left (omega arith) (omega arith) (omega arith) t s,
+        lt-or-eq (side M t right) (side M s left),
+      ) (flip (side M s left) (side M t right))
 
 -- zeros of both signs are equal
 pub zeros-equal : (s t : Bool) (e d : ℤ) → eq (fin s 0 e) (fin t 0 d) ≡ true
@@ -73,30 +88,55 @@ nle→key f x y p q h = nleb→lt (key f x) (key f y) (subst (λ (b : Bool). T (
 
 -- max(a, b) is a if a ≥ b, else b
 pub max-key : (f : Format) (a b : Float) → T (number f a) → T (number f b)
-    → key f (cond (le b a) a b) ≡ max (key f a) (key f b)
+    → key f (cond (le b a) a b) ≡ maxℕ (key f a) (key f b)
 max-key f a b p q = go (le b a) (le→key f b a q p) (λ h. lt→key f a b p q h) (nle→key f b a q p)
   where
     go : (t : Bool) → (T t → key f b ≤ key f a) → (T (lt a b) → key f a < key f b) → (T (not t) → key f a < key f b)
-        → key f (cond t a b) ≡ max (key f a) (key f b)
+        → key f (cond t a b) ≡ maxℕ (key f a) (key f b)
     go true h k l = omega (arith, h tt)
     go false h k l = omega (arith, l tt)
 
 pub min-key : (f : Format) (a b : Float) → T (number f a) → T (number f b)
-    → key f (cond (le a b) a b) ≡ min (key f a) (key f b)
+    → key f (cond (le a b) a b) ≡ minℕ (key f a) (key f b)
 min-key f a b p q = go (le a b) (le→key f a b p q) (nle→key f a b p q)
   where
     go : (t : Bool) → (T t → key f a ≤ key f b) → (T (not t) → key f b < key f a)
-        → key f (cond t a b) ≡ min (key f a) (key f b)
+        → key f (cond t a b) ≡ minℕ (key f a) (key f b)
     go true h l = omega (arith, h tt)
     go false h l = omega (arith, l tt)
 
 pub clamp-key : (f : Format) (c a b : Float) → T (number f c) → T (number f a) → T (number f b) → key f a ≤ key f b
-    → key f (clamp c a b) ≡ max (key f a) (min (key f c) (key f b))
+    → key f (clamp c a b) ≡ maxℕ (key f a) (minℕ (key f c) (key f b))
 clamp-key f c a b p q r h = go (lt c a) (lt b c) (lt→key f c a p q) (nlt→key f c a p q) (lt→key f b c r p)
     (nlt→key f b c r p)
   where
     go : (s t : Bool) → (T s → key f c < key f a) → (T (not s) → key f a ≤ key f c) → (T t → key f b < key f c)
-        → (T (not t) → key f c ≤ key f b) → key f (cond s a (cond t b c)) ≡ max (key f a) (min (key f c) (key f b))
+        → (T (not t) → key f c ≤ key f b) → key f (cond s a (cond t b c)) ≡ maxℕ (key f a) (minℕ (key f c) (key f b))
     go true t x y u v = omega (arith, x tt)
     go false true x y u v = omega (arith, y tt, u tt)
     go false false x y u v = omega (arith, y tt, v tt)
+
+-- ---- of any two finite values
+le-itself : (x : Float) → T (isFinite x) → T (le x x)
+unfolding isFinite
+le-itself nan h = absurd h
+le-itself (inf s) h = absurd h
+le-itself (fin s m e) h =
+    let k = place s s m m e e s (m * up e * down e) in
+    rw (finite-le s s m m e e) (le→leb k k (le-refl k))
+
+pub min-le-max : (x y : Float) → T (isFinite x) → T (isFinite y) → T (le (min x y) (max x y))
+min-le-max x y X Y = go (le x y) (le y x) (λ h. h) (λ h. h)
+  where
+    go : (p q : Bool) → (T p → T (le x y)) → (T q → T (le y x)) → T (le (cond p x y) (cond q x y))
+    go true true f g = le-itself x X
+    go true false f g = f tt
+    go false true f g = g tt
+    go false false f g = le-itself y Y
+
+pub min-infinity : (x : Float) → min (inf false) x ≡ x
+unfolding le
+min-infinity nan = refl
+min-infinity (inf false) = refl
+min-infinity (inf true) = refl
+min-infinity (fin s m e) = refl

@@ -1,12 +1,12 @@
--- The order of values that the format holds, NaN among them, as values of the tests. By keys, and by cases at a NaN. Assumes nothing.
-use Prim.Native.Nat.{_≤_}
+-- The order of values that the format holds, NaN among them, as values of the tests. By keys, and by cases at a NaN.
 use native.Mathlib.Omega.{arith}
 use mathlib.Core.Bool.{Bool, true, false, not}
 use mathlib.Core.Path.{_≡_, refl, subst, sym, _∙_}
 use borrow.Author.Tests.{le-ltb}
 use lib.Dec.{T}
 use lib.Ieee.{Float, Format, nan, inf, fin, fits, isNan, le, lt}
-use lib.Ieee.Fits.{and-i}
+use lib.Ieee.Fits.{and-i, and-l}
+use Rattle.roots.proofs.Pattern.Special.{greater}
 use Rattle.roots.proofs.Rounding.Key.{key, number}
 use Rattle.roots.proofs.Rounding.KeyOrder.{key→lt, lt-key, lt→key, nlt→key}
 
@@ -22,16 +22,6 @@ unfolding lt isNan
 lt-left nan y e = absurd (true→T e)
 lt-left (inf s) y e = tt
 lt-left (fin s m i) y e = tt
-
-lt-right : (x y : Float) → lt x y ≡ true → T (not (isNan y))
-unfolding lt isNan
-lt-right nan y e = absurd (true→T e)
-lt-right (inf s) nan e = absurd (true→T e)
-lt-right (inf s) (inf t) e = tt
-lt-right (inf s) (fin t n j) e = tt
-lt-right (fin s m i) nan e = absurd (true→T e)
-lt-right (fin s m i) (inf t) e = tt
-lt-right (fin s m i) (fin t n j) e = tt
 
 pub le-left : (x y : Float) → le x y ≡ true → T (not (isNan x))
 unfolding le isNan
@@ -76,6 +66,9 @@ module _ (f : Format) where
   pub held-number : (x : Float) → T (fits f x) → T (not (isNan x)) → T (number f x)
   held-number x p q = and-i (fits f x) (not (isNan x)) p q
 
+  pub number-held : (x : Float) → T (number f x) → T (fits f x)
+  number-held x p = and-l (fits f x) (not (isNan x)) p
+
   -- what is below a number is one
   pub below-number : (x y : Float) → T (fits f x) → lt x y ≡ true → T (number f x)
   below-number x y X e = held-number x X (lt-left x y e)
@@ -85,7 +78,7 @@ module _ (f : Format) where
     lt-trans-held Y p q =
         let nx = below-number x y X p in
         let ny = below-number y z Y q in
-        let nz = held-number z Z (lt-right y z q) in
+        let nz = held-number z Z (greater y z q) in
         T→true (lt x z)
         (key→lt f x z nx nz (omega (arith, lt→key f x y nx ny (true→T p), lt→key f y z ny nz (true→T q))))
 

@@ -1,18 +1,16 @@
--- Roots and hypotenuses in the calculus of bounds. Assumes nothing.
+-- Roots in the calculus of bounds: a root of at most (2 ^ k) squared is at most 2 ^ k.
 use Prim.Native.Nat.{_*_, _+_, _<_, _^_, suc, zero, ℕ, _≤_}
 use mathlib.Core.Path.{subst, sym}
 use native.Mathlib.Nat.{add-le-add, le-of-suc-le-suc, le-trans, mul-le-mul, mul-le-mul-right, one-mul, two-pow-succ}
 use native.Mathlib.Omega.{arith}
-use lib.Dec.{ltb, ltb→lt, T}
 use lib.Ieee.{Float, Format, low}
 use lib.Pow.{pow-add, pow-mono}
-use Rattle.arith.proofs.Laws.Bounded.{Bounded, bounded-of-within, fit1, fit2, one-lt, oneAbove, overflow}
-use Rattle.arith.proofs.Laws.HypotKey.{hypot-is, root-not-negative, sqrt-is}
-use Rattle.arith.proofs.Laws.Monotone.{keySize}
+use Rattle.arith.proofs.Laws.Bounded.{Bounded, bounded-of-within, one-lt, overflow}
+use Rattle.arith.proofs.Laws.HypotKey.{root-not-negative, sqrt-is}
 use Rattle.arith.proofs.Laws.RootKey.{root-le, root-number}
 use Rattle.roots.proofs.Rounding.Key.{key, mid, unit}
 use Rattle.roots.proofs.Rounding.Product.{positivePart}
-use Rattle.roots.specs.Roots.{hypot, root, sqrt}
+use Rattle.roots.specs.Roots.{root, sqrt}
 
 -- a root: N at most (2 ^ k) squared
 pub root-bounded : (f : Format) (k N : ℕ) → k < overflow f → N ≤ 2 ^ k * 2 ^ k → Bounded f k (root f N)
@@ -29,17 +27,6 @@ squares-le a b i j (suc k) h l m n =
     let y : b ≤ 2 ^ k = le-trans l (pow-mono (le-of-suc-le-suc n)) in
     le-trans (add-le-add (mul-le-mul x x) (mul-le-mul y y)) (rw (two-pow-succ k) (omega arith))
 
-keySize-le : (f : Format) (i : ℕ) (x : Float) → Bounded f i x → keySize f x ≤ 2 ^ i
-unfolding keySize
-keySize-le f i x h = omega arith
-
-pub hypot-bounded : (f : Format) (i j k : ℕ) (x y : Float) → k < overflow f → i < k → j < k → Bounded f i x
-    → Bounded f j y → Bounded f k (hypot f x y)
-hypot-bounded f i j k x y K a b X Y =
-    subst (λ (z : Float). Bounded f k z) (sym (hypot-is f x y (X .sure) (Y .sure)))
-    (root-bounded f k (keySize f x * keySize f x + keySize f y * keySize f y) K
-    (squares-le (keySize f x) (keySize f y) i j k (keySize-le f i x X) (keySize-le f j y Y) a b))
-
 pub sqrt-bounded : (f : Format) (i k : ℕ) (x : Float) → k < overflow f → i + low f ≤ k + k → Bounded f i x
     → mid f < key f x → Bounded f k (sqrt f x)
 sqrt-bounded f i k x K a X h =
@@ -49,8 +36,3 @@ sqrt-bounded f i k x K a X h =
   where
     quot : i + low f ≤ k + k → 2 ^ i * unit f ≤ 2 ^ k * 2 ^ k
     quot a = unfold unit in rw (← pow-add 2 i (low f), ← pow-add 2 k k) (pow-mono a)
-
-pub hypot-bound : {f : Format} {i j : ℕ} {x y : Float} → Bounded f i x → Bounded f j y
-    → T (ltb (oneAbove i j) (overflow f)) → Bounded f (oneAbove i j) (hypot f x y)
-hypot-bound {f} {i} {j} {x} {y} X Y t = hypot-bounded f i j (oneAbove i j) x y (ltb→lt (oneAbove i j) (overflow f) t)
-    (fit1 i j) (fit2 i j) X Y

@@ -1,4 +1,4 @@
--- The rounded root: its key, monotone, bounded by the numbers whose squares bound it. Assumes nothing.
+-- The rounded root: its key, monotone, bounded by the numbers whose squares bound it. It is one rounding of the sticky root.
 use Prim.Native.Nat.{_*_, _+_, _<_, _^_, ℕ, _≤_}
 use mathlib.Core.Bool.{false, not}
 use mathlib.Core.Path.{ap, subst, sym, _∙_, _≡_}

@@ -1,5 +1,5 @@
 -- The error of one rounding as a share of what is rounded: at most a 2 K th for every K that the format's digits tell apart, and half a
--- unit where nothing is dropped; and what two sums of products make of it. Over any number of digits. Assumes nothing.
+-- unit where nothing is dropped; and what two sums of products make of it. Over any number of digits.
 use Prim.Native.Nat.{_*_, _+_, _-_, _/_, _<_, _^_, suc, zero, ℕ, _≤_}
 use mathlib.Core.Logic.{inl, inr, _⊎_}
 use mathlib.Core.Path.{_≡_, sym}

@@ -1,4 +1,4 @@
--- x - y ≤ x ≤ x + y for any finite y ≥ 0, whether or not the format holds y. Assumes nothing.
+-- x - y ≤ x ≤ x + y for any finite y ≥ 0, whether or not the format holds y: the keys of both as fractions over one denominator.
 use Prim.Native.Nat.{_*_, _+_, _-_, _<_, ℕ, _≤_}
 use mathlib.Core.Bool.{Bool, cond, false, not, true}
 use mathlib.Core.Path.{ap, refl, sym, _∙_, _≡_}
@@ -85,8 +85,7 @@ module _ (f : Format) where
       (rw (
         sym (add-mul (a * unit f) (b' * unit f) c),
         sym (add-mul (a' * unit f) (b * unit f) c),
-        sym
-            (add-mul a b' (unit f)),
+        sym (add-mul a b' (unit f)),
         sym (add-mul a' b (unit f)),
       ) (mul-le-mul-right c (mul-le-mul-right (unit f) h)))
 

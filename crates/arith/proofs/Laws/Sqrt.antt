@@ -1,24 +1,24 @@
--- sqrt of what is not below zero: a number, and monotone. Assumes nothing.
-use Prim.Native.Nat.{_*_, _+_, _-_, _<_, _^_, suc, zero, zero-le, ℕ, _≤_}
+-- sqrt of what is not below zero: a number, monotone, nearest, exact at squares. It is the root of a whole number.
+use Prim.Native.Nat.{_*_, _+_, _-_, _<_, suc, zero, zero-le, ℕ, _≤_}
 use mathlib.Core.Bool.{Bool, false, true}
 use mathlib.Core.Path.{ap, refl, subst, sym, _∙_, _≡_}
 use native.Mathlib.Nat.{add-zero, le-of-eq, le-trans, lt-irrefl, lt-of-le-of-lt, mul-le-mul-right, mul-pos}
 use native.Mathlib.Nat.{not-le-of-lt, zero-lt-suc, zero-mul}
 use native.Mathlib.Omega.{arith}
 use lib.Dec.{T}
-use lib.Ieee.{down, fin, fits, Float, Format, inf, le, low, nan, prec, up}
-use lib.Ieee.Fits.{and-r, inf-fits, nan-fits, up-pos}
+use lib.Ieee.{down, fin, fits, Float, Format, inf, le, nan, prec, up}
+use lib.Ieee.Fits.{and-r, up-pos}
 use lib.IntN.{ℤ}
 use lib.Pow.{pow-pos}
 use Rattle.arith.proofs.Laws.Hypot.{inf-key, inf-number, infinite, Kind, kind, le-inf, sqrt-root, usual}
 use Rattle.arith.proofs.Laws.Hypot.{unsigned}
 use Rattle.arith.proofs.Laws.HypotZero.{zero-magnitude, root-of-square}
-use Rattle.arith.proofs.Laws.RootKey.{root-fits, root-ge, root-le, root-mono, root-number}
+use Rattle.arith.proofs.Laws.RootKey.{root-ge, root-le, root-mono, root-number}
 use Rattle.roots.proofs.Rounding.Key.{finiteNumber, key, key-is, magnitude, mid, mid-pos, number, number-of}
 use Rattle.roots.proofs.Rounding.Key.{plusZero, plusZero-finiteNumber, plusZero-key, representable-of, unit}
 use Rattle.roots.proofs.Rounding.Key.{unit-pos}
 use Rattle.roots.proofs.Rounding.KeyOrder.{key→le, le→key}
-use Rattle.roots.specs.Roots.{root, sqrt, ticks}
+use Rattle.roots.specs.Roots.{root, sqrt}
 use Rattle.arith.proofs.Laws.NearestRoot.{NearestRoot, root-nearest}
 
 -- ---- the square root of what is not below zero
@@ -141,15 +141,6 @@ sqrt-mono f x y p q h l = go (kind f x p) (kind f y q)
       where
         less : (M s t a b : ℕ) → a ≡ M + s → b ≡ M + t → a ≤ b → s ≤ t
         less M s t a b e f h = omega arith
-
-pub sqrt-fits : (f : Format) (x : Float) → T (fits f x) → T (fits f (sqrt f x))
-unfolding sqrt
-sqrt-fits f nan h = nan-fits f
-sqrt-fits f (inf false) h = inf-fits f false
-sqrt-fits f (inf true) h = nan-fits f
-sqrt-fits f (fin false m e) h = root-fits f (ticks f (fin false m e) * 2 ^ low f)
-sqrt-fits f (fin true zero e) h = h
-sqrt-fits f (fin true (suc m) e) h = nan-fits f
 
 -- ---- it is the number nearest the exact root, ties to even; unit f ticks make 1
 pub sqrt-nearest : (f : Format) (m : ℕ) (e : ℤ)

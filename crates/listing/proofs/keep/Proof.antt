@@ -1,24 +1,22 @@
--- `listing::keep` meets its contract: one byte is kept in a turn. Assumes nothing.
-use Prim.Native.Nat.{_+_, _-_, _≤_, _<_, _^_}
+-- `listing::keep`. One byte is kept in a turn.
+use Prim.Native.Nat.{_+_, _-_, _≤_}
 use mathlib.Core.Path.{_≡_, refl}
 use lib.ListN.{length, take, length-set}
-use native.Mathlib.Omega.{arith}
-use Rattle.store.specs.Promises.{Written}
-use Rattle.store.proofs.Writing.{word-more, word-all}
+use Rattle.store_listing.specs.Steps.{Written}
+use Rattle.store_listing.proofs.Writing.{word-more, word-all}
 use borrow.Author.Needs.{needs}
 use Rattle.listing.proofs.keep.Statement.{statement}
 use Rattle.listing.proofs.keep.Tie as tie
 
 abbrev Inv-loop : tie.InvT-loop
 Inv-loop buffer₀ from piece i₀ buffer i =
-    (i ≤ length piece) × (length buffer ≡ length buffer₀) × (from + length piece < 2 ^ 64) × Written buffer₀ from
-    (take i piece) buffer (from + i)
+    (i ≤ length piece) × (length buffer ≡ length buffer₀) × Written buffer₀ from (take i piece) buffer (from + i)
 
 abbrev μ-loop : tie.MeasureT-loop
 μ-loop buffer₀ from piece i₀ buffer i = length piece - i
 
 loop-holds : tie.Need-loop-holds Inv-loop μ-loop
-loop-holds c = (search needs, refl, c .before .before .pre, record { text = refl; end = refl })
+loop-holds c = (search needs, refl, record { text = refl; end = refl })
 
 add-keep-byte : tie.Need-add-keep-byte Inv-loop μ-loop
 add-keep-byte c = search needs
@@ -42,16 +40,14 @@ loop-again c =
     let c₆ = c₅ .before in (
       search needs,
       rw (c₂ .keep-byte .ensures, length-set) (c₆ .loop .inv .1),
-      c₆ .loop .inv .2,
-      rw
-          (c₂ .keep-byte .ensures) (word-more _ _ (c₆ .loop .inv .3) (c₅ .loop-test .taken)),
+      rw (c₂ .keep-byte .ensures) (word-more _ _ (c₆ .loop .inv .2) (c₅ .loop-test .taken)),
     )
 
 same-length : tie.Need-same-length Inv-loop μ-loop
 same-length c = search needs
 
 returns : tie.Need-returns Inv-loop μ-loop
-returns c = word-all _ _ (c .before .loop .inv .3) (c .loop-test .left) .text
+returns c = word-all _ _ (c .before .loop .inv .2) (c .loop-test .left) .text
 
 pub keep-spec : {M : Type 1} → statement M
 keep-spec =

@@ -1,4 +1,4 @@
--- From a bracket of whole numbers to the root at binary64: what the bisection finds is the bits of the root. Assumes nothing.
+-- From a bracket of whole numbers to the root at binary64: what the bisection finds is the bits of the root.
 use Prim.Native.Nat.{_%_, _*_, _+_, _-_, _/_, _<_, _^_, ℕ, _≤_}
 use mathlib.Core.Bool.{false}
 use mathlib.Core.Logic.{inl, inr, _⊎_}
@@ -13,7 +13,7 @@ use Rattle.roots.proofs.Pattern.Bits.{units-bits, units-over}
 use Rattle.roots.proofs.Root.Candidate.{NearestTo, root-at}
 use Rattle.roots.proofs.Root.Inside.{pred}
 use Rattle.roots.proofs.Squares.{four-sq, lt-not-eq, sq-times, sq-times-le, sq-times-lt}
-use Rattle.roots.specs.Core.{RoundsDown, RoundsDownAt, RoundsUp, RoundsUpAt, sq}
+use Rattle.roots.specs.Steps.{Rounded, RoundsDown, RoundsDownAt, RoundsUp, RoundsUpAt, sq}
 use Rattle.roots.specs.Roots.{root}
 
 -- ---- the root's pattern, or infinity
@@ -99,27 +99,27 @@ module _ (n z t u k M M' j w : ℕ) (br : Bracket n z t u) (U : 0 < u) (p : M * 
     at-hi = ap sq (sym q) ∙ sq-times M' u
 
     lo-le : sq M * sq u ≤ 4 * n
-    lo-le = le-trans (mul-le-mul-right (sq u) (let x = ua .0 in let y : sq M ≤ z = omega arith in y)) (br .low)
+    lo-le = le-trans (mul-le-mul-right (sq u) (let x = ua .reached in let y : sq M ≤ z = omega arith in y)) (br .low)
 
     lo-tie : sq M * sq u ≡ 4 * n → j % 2 ≡ 1
     lo-tie e = elim (decide (t + k % 2) 0) [
-      | inl x ↦ lt-not-eq (sq M * sq u) (4 * n) (lt-of-lt-of-le (mul-lt-mul-of-pos-right (ua .1 (omega arith)) SU)
+      | inl x ↦ lt-not-eq (sq M * sq u) (4 * n) (lt-of-lt-of-le (mul-lt-mul-of-pos-right (ua .passed (omega arith)) SU)
           (br .low)) e
       | inr x ↦ elim (decide t 0) [
         | inl y ↦ sym par ∙ odd-even t k (omega arith) x
         | inr y ↦ lt-not-eq (sq M * sq u) (4 * n) (lt-of-le-of-lt (mul-le-mul-right (sq u)
-            (let x' = ua .0 in let y' : sq M ≤ z = omega arith in y')) (br .more y)) e
+            (let x' = ua .reached in let y' : sq M ≤ z = omega arith in y')) (br .more y)) e
       ]
     ]
 
     strict : 0 < t + (k + 1) % 2 → 4 * n < sq M' * sq u
-    strict h = lt-of-lt-of-le (br .high) (mul-le-mul-right (sq u) (let x = da .1 h in let y : z + 1 ≤ sq M' = omega
+    strict h = lt-of-lt-of-le (br .high) (mul-le-mul-right (sq u) (let x = da .passed h in let y : z + 1 ≤ sq M' = omega
         arith in y))
 
     hi-le : 4 * n ≤ sq M' * sq u
     hi-le = elim (decide t 0) [
       | inl y ↦ le-trans (le-of-eq (br .exact (omega arith))) (mul-le-mul-right (sq u)
-          (let x = da .0 in let w : z ≤ sq M' = omega arith in w))
+          (let x = da .reached in let w : z ≤ sq M' = omega arith in w))
       | inr y ↦ le-of-lt (strict (omega arith))
     ]
 
@@ -198,34 +198,34 @@ module _ (n z t E m : ℕ) (br : Bracket n z t (2 ^ E)) (mp : 0 < m) (ml : m < 2
       times-four n a h = omega arith
 
       low-of : RoundsUpAt z t (2 ^ 53 - 1) (2 * (2 ^ 53 - 1) + 1) → sq (2 * (2 ^ 53 - 1) + 1) ≤ z
-      low-of (x, y) = native.Mathlib.Nat.le-of-suc-le-suc (le-trans x (le-of-eq (native.Mathlib.Numerals.add-one z)))
+      low-of u = native.Mathlib.Nat.le-of-suc-le-suc (le-trans (u .reached) (le-of-eq (native.Mathlib.Numerals.add-one z)))
 
       hi-of : RoundsDownAt z t (2 ^ 53) (2 * (2 ^ 53 + 1)) → 4 * n ≤ sq (2 * (2 ^ 53 + 1) * 2 ^ E)
-      hi-of (x, y) = le-trans (go (decide t 0)) (le-of-eq (sym (sq-times (2 * (2 ^ 53 + 1)) (2 ^ E))))
+      hi-of d = le-trans (go (decide t 0)) (le-of-eq (sym (sq-times (2 * (2 ^ 53 + 1)) (2 ^ E))))
         where
           go : (t ≤ 0) ⊎ (0 < t) → 4 * n ≤ sq (2 * (2 ^ 53 + 1)) * sq (2 ^ E)
           go (inl h) = le-trans (le-of-eq (br .exact (omega arith)))
               (mul-le-mul-right (sq (2 ^ E)) (native.Mathlib.Nat.le-of-suc-le-suc
-              (le-trans x (le-of-eq (native.Mathlib.Numerals.add-one (sq (2 * (2 ^ 53 + 1))))))))
+              (le-trans (d .reached) (le-of-eq (native.Mathlib.Numerals.add-one (sq (2 * (2 ^ 53 + 1))))))))
           go (inr h) = le-trans (le-of-lt (br .high)) (mul-le-mul-right (sq (2 ^ E))
-              (le-trans (le-of-eq (native.Mathlib.Numerals.add-one z)) (y (omega arith))))
+              (le-trans (le-of-eq (native.Mathlib.Numerals.add-one z)) (d .passed (omega arith))))
 
-  pub found : (r : ℕ) → m ≤ r → r ≤ m + 2 ^ 52 → RoundsUp z t (r - 1) → RoundsDown z t r → RootIs n (E * 2 ^ 52 + r)
-  found r h l up' down' = elim (decide (2 ^ 53) r) [
+  pub found : (r : ℕ) → Rounded z t (m - 1) (m + 2 ^ 52) r → RootIs n (E * 2 ^ 52 + r)
+  found r h = elim (decide (2 ^ 53) r) [
     | inr x ↦
         let e : r - 1 + 1 ≡ r = pred r (omega arith) in
-        subst (λ (y : ℕ). RootIs n (E * 2 ^ 52 + y)) e (below (r - 1) (omega arith) (omega arith) up'
-        (subst (λ (y : ℕ). RoundsDown z t y) (sym e) down'))
+        subst (λ (y : ℕ). RootIs n (E * 2 ^ 52 + y)) e (below (r - 1) (omega arith) (omega arith) (h .up)
+        (subst (λ (y : ℕ). RoundsDown z t y) (sym e) (h .down)))
     | inl x ↦ elim (decide r (2 ^ 53)) [
       | inl y ↦
           let e : r ≡ 2 ^ 53 = omega arith in
-          subst (λ (y : ℕ). RootIs n (E * 2 ^ 52 + y)) (sym e) (edge (subst (λ (y : ℕ). RoundsUp z t (y - 1)) e up')
-          (subst (λ (y : ℕ). RoundsDown z t y) e down'))
+          subst (λ (y : ℕ). RootIs n (E * 2 ^ 52 + y)) (sym e) (edge (subst (λ (y : ℕ). RoundsUp z t (y - 1)) e (h .up))
+          (subst (λ (y : ℕ). RoundsDown z t y) e (h .down)))
       | inr y ↦
           let e : r - 1 - 2 ^ 52 + 2 ^ 52 + 1 ≡ r = omega arith in
           let f : r - 1 - 2 ^ 52 + 2 ^ 52 ≡ r - 1 = omega arith in
           subst (λ (y : ℕ). RootIs n (E * 2 ^ 52 + y)) e (above (r - 1 - 2 ^ 52) (omega arith) (omega arith)
-          (subst (λ (y : ℕ). RoundsUp z t y) (sym f) up') (subst (λ (y : ℕ). RoundsDown z t y) (sym e) down'))
+          (subst (λ (y : ℕ). RoundsUp z t y) (sym f) (h .up)) (subst (λ (y : ℕ). RoundsDown z t y) (sym e) (h .down)))
     ]
   ]
 

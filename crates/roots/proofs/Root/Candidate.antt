@@ -1,4 +1,4 @@
--- A candidate that passes two comparisons of squares, and is even at a tie, is the root at binary64. Assumes nothing.
+-- A candidate that passes two comparisons of squares, and is even at a tie, is the root at binary64.
 use Prim.Native.Nat.{_%_, _*_, _+_, _-_, _/_, _<_, _^_, compare, Ordering, Ordering·eq, Ordering·gt, Ordering·lt, suc}
 use Prim.Native.Nat.{zero-le, ℕ, _≤_}
 use mathlib.Core.Bool.{false}
@@ -12,7 +12,7 @@ use lib.Pow.{pow-add, pow-pos}
 use Rattle.roots.proofs.Numbers.{Compared, compared, decide}
 use Rattle.roots.proofs.Root.Digits.{DigitsWithin, root-digits, size-ge, sq-pow}
 use Rattle.roots.proofs.Squares.{square, times-le, times-lt}
-use Rattle.roots.specs.Core.{sq}
+use Rattle.roots.specs.Steps.{sq}
 use Rattle.roots.specs.Roots.{root, rootDigits}
 
 -- j + 1 steps of u are nearest to the root of n, and where j or j + 2 steps are as near j + 1 is even

@@ -1,4 +1,4 @@
--- The digits of a root: rootDigits finds the greatest h with (h * u) ^ 2 at most n. Assumes nothing.
+-- The digits of a root: rootDigits finds the greatest h with (h * u) ^ 2 at most n.
 use Prim.Native.Nat.{_*_, _+_, _<_, _^_, suc, zero, ℕ, _≤_}
 use mathlib.Core.Bool.{Bool, cond, false, true}
 use mathlib.Core.Logic.{inl, inr}
@@ -11,7 +11,7 @@ use lib.Ieee.Digits.{size-lt}
 use lib.Pow.{pow-add, pow-mono}
 use borrow.Author.Tests.{leb-false, leb-true}
 use Rattle.roots.proofs.Numbers.{decide}
-use Rattle.roots.specs.Core.{sq}
+use Rattle.roots.specs.Steps.{sq}
 use Rattle.roots.specs.Roots.{rootDigits}
 
 -- the digits of a root: the greatest h with (h * u) ^ 2 at most n

@@ -1,4 +1,4 @@
--- What the integer core finds of two significands is the bits of the hypotenuse. Assumes nothing.
+-- What the integer core finds of two significands is the bits of the hypotenuse.
 use Prim.Native.Nat.{_%_, _*_, _+_, _-_, _/_, _<_, _^_, suc, zero, zero-le, ℕ, _≤_}
 use mathlib.Core.Bool.{false}
 use mathlib.Core.Logic.{inl, inr}
@@ -13,8 +13,8 @@ use Rattle.roots.proofs.Numbers.{decide}
 use Rattle.roots.proofs.Root.Bracket.{Bracket, bracket, found, four-hyp, four-hyp-top, hyp, root-near, RootIs}
 use Rattle.roots.proofs.Root.Bracket.{square-hyp, square-hyp-top}
 use Rattle.roots.proofs.Root.Inside.{inside-hi, inside-lo, near-inside, pred}
-use Rattle.roots.specs.Core.{exponentOf, HypotIs, NearestHalf, RoundsDown, RoundsUp, Scaled, significandOf, sq}
-use Rattle.roots.specs.Core.{Sticky, ticksOf}
+use Rattle.roots.specs.Steps.{exponentOf, HypotIs, NearestHalf, Operands, Picks, Rounded, Scaled, significandOf}
+use Rattle.roots.specs.Steps.{sq, Sticky, ticksOf}
 use Rattle.roots.specs.Roots.{root}
 
 pub ticksOf-is : (p : ℕ) → ticksOf p ≡ significandOf p * 2 ^ exponentOf p
@@ -90,13 +90,12 @@ module _ (p q d : ℕ) (gap : exponentOf p ≡ d + exponentOf q) where
       (2 ^ exponentOf p) (pow-pos (2 * d)) (mul-pos (pow-pos (exponentOf q)) (pow-pos (exponentOf q))) n-four
       (ap (λ (x : ℕ). sq (2 ^ x)) gap ∙ square-hyp d (exponentOf q)) t x y
 
-  pub search-law : (t r : ℕ) → 0 < p → (t ≡ 0 → sq (2 * significandOf q) % 2 ^ (2 * d) ≡ 0)
-      → (0 < t → 0 < sq (2 * significandOf q) % 2 ^ (2 * d)) → significandOf p ≤ r → r ≤ significandOf p + 2 ^ 52
-      → RoundsUp (sq (2 * significandOf p) + sq (2 * significandOf q) / 2 ^ (2 * d)) t (r - 1)
-      → RoundsDown (sq (2 * significandOf p) + sq (2 * significandOf q) / 2 ^ (2 * d)) t r
+  pub search-law : (t r : ℕ) → 0 < p → Sticky (significandOf q) d t
+      → Rounded (sq (2 * significandOf p) + sq (2 * significandOf q) / 2 ^ (2 * d)) t (significandOf p - 1)
+      (significandOf p + 2 ^ 52) r
       → RootIs (sq (ticksOf p) + sq (ticksOf q)) (exponentOf p * 2 ^ 52 + r)
-  search-law t r h x y l k u v = found n (sq (2 * significandOf p) + sq (2 * significandOf q) / 2 ^ (2 * d)) t
-      (exponentOf p) (significandOf p) (at t x y) (some p h) (short p) (normal p) big r l k u v
+  search-law t r h s = found n (sq (2 * significandOf p) + sq (2 * significandOf q) / 2 ^ (2 * d)) t (exponentOf p)
+      (significandOf p) (at t (s .exact) (s .more)) (some p h) (short p) (normal p) big r
 
   -- z and a bit, with (2 r - 1)^2 < z < (2 r + 1)^2: r steps
   inside : (z t E r : ℕ) → Bracket n z t (2 ^ E) → NearestHalf z r → 2 ^ 52 ≤ r → r ≤ 2 ^ 53
@@ -201,9 +200,8 @@ shifted-le p q (suc d) gap h =
 gap-of : (p q : ℕ) → q ≤ p → exponentOf p ≡ exponentOf p - exponentOf q + exponentOf q
 gap-of p q h = omega arith
 
-pub any-far : (p q eb es : ℕ) → eb ≡ exponentOf p → es ≡ exponentOf q → q ≤ p → p < 2047 * 2 ^ 52 → 27 ≤ eb - es
-    → HypotIs p q p
-any-far p q eb es e f h l k = far-law p q (exponentOf p - exponentOf q) (gap-of p q h) (omega arith) l
+pub any-far : (p q eb es : ℕ) → eb ≡ exponentOf p → es ≡ exponentOf q → Operands 0 2047 p q → 27 ≤ eb - es → HypotIs p q p
+any-far p q eb es e f h k = far-law p q (exponentOf p - exponentOf q) (gap-of p q (h .ordered)) (omega arith) (h .fine)
 
 abbrev Shift : ℕ → ℕ → ℕ → ℕ → Type 0
 Shift p q eb es = q - es * 2 ^ 52 ≤ (p - eb * 2 ^ 52) * 2 ^ (eb - es)
@@ -215,38 +213,43 @@ any-shift p q eb es e f h = subst (λ (x : ℕ). Shift p q x es) (sym e)
 
 abbrev AnyLaw : ℕ → ℕ → ℕ → ℕ → ℕ → ℕ → Type 0
 AnyLaw p q t r eb es =
-    Sticky (q - es * 2 ^ 52) (eb - es) t → p - eb * 2 ^ 52 ≤ r → r ≤ p - eb * 2 ^ 52 + 2 ^ 52
-    → RoundsUp (sq (2 * (p - eb * 2 ^ 52)) + sq (2 * (q - es * 2 ^ 52)) / 2 ^ (2 * (eb - es))) t (r - 1)
-    → RoundsDown (sq (2 * (p - eb * 2 ^ 52)) + sq (2 * (q - es * 2 ^ 52)) / 2 ^ (2 * (eb - es))) t r
+    Sticky (q - es * 2 ^ 52) (eb - es) t
+    → Rounded (sq (2 * (p - eb * 2 ^ 52)) + sq (2 * (q - es * 2 ^ 52)) / 2 ^ (2 * (eb - es))) t (p - eb * 2 ^ 52 - 1)
+    (p - eb * 2 ^ 52 + 2 ^ 52) r
     → RootIs (sq (ticksOf p) + sq (ticksOf q)) (eb * 2 ^ 52 + r)
 
 pub any-law : (p q t r eb es : ℕ) → eb ≡ exponentOf p → es ≡ exponentOf q → q ≤ p → 0 < p → AnyLaw p q t r eb es
 any-law p q t r eb es e f h l =
     subst (λ (x : ℕ). AnyLaw p q t r x es) (sym e)
     (subst (λ (y : ℕ). AnyLaw p q t r (exponentOf p) y) (sym f)
-    (λ s x y u v. search-law p q (exponentOf p - exponentOf q) (gap-of p q h) t r l (s .exact) (s .more) x y u v))
+    (search-law p q (exponentOf p - exponentOf q) (gap-of p q h) t r l))
 
-pub fast-bits : (p q top a b r : ℕ) → q ≤ p → 2 ^ 52 ≤ q → p < 2000 * 2 ^ 52 → top < 2
+pub fast-bits : (p q top a b r : ℕ) → Operands (2 ^ 52) 2000 p q → top < 2
     → Scaled (p % 2 ^ 52 + 2 ^ 52) top a → Scaled (q % 2 ^ 52 + 2 ^ 52) top b
     → NearestHalf (sq a + sq b / 2 ^ (2 * (p / 2 ^ 52 - q / 2 ^ 52))) r → 2 ^ 52 < r → r ≤ 2 ^ 53
     → HypotIs p q ((p / 2 ^ 52 - 1 + top) * 2 ^ 52 + r)
-fast-bits p q top a b r h k l t x y i m n =
+fast-bits p q top a b r h t x y i m n =
     fast-law p q (p / 2 ^ 52 - q / 2 ^ 52) top a b r (let g : exponentOf p ≡ p / 2 ^ 52 - q / 2 ^ 52 + exponentOf q =
     omega arith in g) t
     (subst (λ (z : ℕ). Scaled z top a) (let g : p % 2 ^ 52 + 2 ^ 52 ≡ significandOf p = omega arith in g) x)
     (subst (λ (z : ℕ). Scaled z top b) (let g : q % 2 ^ 52 + 2 ^ 52 ≡ significandOf q = omega arith in g) y) i m n
     (omega arith)
 
-pub ordered : (a b p q : ℕ) → (a < b → p ≡ b) × (b ≤ a → p ≡ a) → (a < b → q ≡ a) × (b ≤ a → q ≡ b)
-    → (q ≤ p) × ((c : ℕ) → a < c → b < c → p < c)
-ordered a b p q x y = elim (decide b a) [
-  | inl h ↦ let u = x .1 h in let v = y .1 h in (omega arith, λ c i j. omega arith)
-  | inr h ↦ let u = x .0 h in let v = y .0 h in (omega arith, λ c i j. omega arith)
+pub operands : (a b p q : ℕ) → a < 2047 * 2 ^ 52 → b < 2047 * 2 ^ 52 → Picks a b b a p → Picks a b a b q
+    → Operands 0 2047 p q
+operands a b p q i j x y = elim (decide b a) [
+  | inl h ↦
+      let u = x .not-less h in
+      let v = y .not-less h in
+      record { at-least = zero-le; ordered = omega arith; fine = omega arith }
+  | inr h ↦
+      let u = x .less h in
+      let v = y .less h in
+      record { at-least = zero-le; ordered = omega arith; fine = omega arith }
 ]
 
-pub either-way : (a b p q r : ℕ) → (a < b → p ≡ b) × (b ≤ a → p ≡ a) → (a < b → q ≡ a) × (b ≤ a → q ≡ b) → HypotIs p q r
-    → HypotIs a b r
+pub either-way : (a b p q r : ℕ) → Picks a b b a p → Picks a b a b q → HypotIs p q r → HypotIs a b r
 either-way a b p q r x y h = elim (decide b a) [
-  | inl l ↦ subst (λ (z : ℕ). HypotIs z b r) (x .1 l) (subst (λ (z : ℕ). HypotIs p z r) (y .1 l) h)
-  | inr l ↦ swap b a r (subst (λ (z : ℕ). HypotIs z a r) (x .0 l) (subst (λ (z : ℕ). HypotIs p z r) (y .0 l) h))
+  | inl l ↦ subst (λ (z : ℕ). HypotIs z b r) (x .not-less l) (subst (λ (z : ℕ). HypotIs p z r) (y .not-less l) h)
+  | inr l ↦ swap b a r (subst (λ (z : ℕ). HypotIs z a r) (x .less l) (subst (λ (z : ℕ). HypotIs p z r) (y .less l) h))
 ]

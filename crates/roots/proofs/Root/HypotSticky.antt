@@ -1,4 +1,4 @@
--- Which digits of a square are lost when it is shifted. Assumes nothing.
+-- Which digits of a square are lost when it is shifted.
 use Prim.Native.Nat.{_%_, _*_, _+_, _-_, _/_, _<_, _^_, ℕ, _≤_}
 use mathlib.Core.Logic.{inl, inr}
 use mathlib.Core.Path.{ap, sym, _∙_, _≡_}
@@ -6,8 +6,8 @@ use native.Mathlib.Nat.{lt-irrefl}
 use native.Mathlib.Omega.{arith}
 use lib.Pow.{mod-mod-pow}
 use Rattle.roots.proofs.Numbers.{decide}
-use Rattle.roots.proofs.Root.HypotCore.{n}
-use Rattle.roots.specs.Core.{sq, Sticky}
+use Rattle.roots.specs.Steps.{Limbs, sq, Sticky}
+use Rattle.roots.specs.declared.wide.Wide.{Wide}
 
 -- the square is h * 2 ^ 56 + l: the digits that are lost are those of l
 lost : (m d h l : ℕ) → d < 27 → l < 2 ^ 56 → h * 2 ^ 56 + l ≡ 2 * m * (2 * m)
@@ -25,19 +25,19 @@ kept-back l s h = let x : l / 2 ^ s * 2 ^ s ≤ l = native.Mathlib.Nat.div-mul-l
     go : (x : ℕ) → x < 2 ^ 56 → x % 2 ^ 64 ≡ x
     go x h = omega arith
 
-pub sticky-zero : (m d h l : ℕ) → d < 27 → l < 2 ^ 56 → h * 2 ^ 56 + l ≡ 2 * m * (2 * m)
-    → l / 2 ^ (2 * d) * 2 ^ (2 * d) % 2 ^ 64 ≡ l → Sticky m d 0
-sticky-zero m d h l D L e z =
-    let a = lost m d h l D L e in
-    let b = lib.Pow.split l (2 * d) in
-    let c = kept-back l (2 * d) L in
+pub sticky-zero : (m d : ℕ) (q : Wide) → d < 27 → Limbs (2 * m * (2 * m)) 54 56 q
+    → q .lo / 2 ^ (2 * d) * 2 ^ (2 * d) % 2 ^ 64 ≡ q .lo → Sticky m d 0
+sticky-zero m d q D s z =
+    let a = lost m d (q .hi) (q .lo) D (s .lo-small) (s .value) in
+    let b = lib.Pow.split (q .lo) (2 * d) in
+    let c = kept-back (q .lo) (2 * d) (s .lo-small) in
     record { bit = omega arith; exact = λ x. omega arith; more = λ (x : 0 < 0). absurd (lt-irrefl 0 x) }
 
-pub sticky-one : (m d h l : ℕ) → d < 27 → l < 2 ^ 56 → h * 2 ^ 56 + l ≡ 2 * m * (2 * m)
-    → (l / 2 ^ (2 * d) * 2 ^ (2 * d) % 2 ^ 64 ≡ l → ⊥) → Sticky m d 1
-sticky-one m d h l D L e z =
-    let a = lost m d h l D L e in
-    let b = lib.Pow.split l (2 * d) in
-    let c = kept-back l (2 * d) L in
-    let n : 0 < l % 2 ^ (2 * d) = elim (decide (l % 2 ^ (2 * d)) 0) [ inl x ↦ absurd (z (omega arith)) | inr x ↦ x ] in
+pub sticky-one : (m d : ℕ) (q : Wide) → d < 27 → Limbs (2 * m * (2 * m)) 54 56 q
+    → (q .lo / 2 ^ (2 * d) * 2 ^ (2 * d) % 2 ^ 64 ≡ q .lo → ⊥) → Sticky m d 1
+sticky-one m d q D s z =
+    let a = lost m d (q .hi) (q .lo) D (s .lo-small) (s .value) in
+    let b = lib.Pow.split (q .lo) (2 * d) in
+    let c = kept-back (q .lo) (2 * d) (s .lo-small) in
+    let n : 0 < q .lo % 2 ^ (2 * d) = elim (decide (q .lo % 2 ^ (2 * d)) 0) [ inl x ↦ absurd (z (omega arith)) | inr x ↦ x ] in
     record { bit = omega arith; exact = λ x. omega arith; more = λ x. omega arith }

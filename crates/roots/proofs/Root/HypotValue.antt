@@ -1,4 +1,4 @@
--- What `hypot` of two values is, by their bits: finite, infinite, NaN. Assumes nothing.
+-- What `hypot` of two values is, by their bits: finite, infinite, NaN.
 use Prim.Native.Nat.{_%_, _*_, _+_, _/_, _<_, _^_, ℕ, _≤_}
 use mathlib.Core.Bool.{Bool, false, not}
 use mathlib.Core.Logic.{inl, inr}
@@ -16,7 +16,7 @@ use Rattle.roots.proofs.Pattern.Special.{above-inf, unlike-itself}
 use Rattle.roots.proofs.Root.HypotCore.{infinity, n, normal, short, ticksOf-is, whole}
 use Rattle.roots.proofs.Root.SqrtValue.{none}
 use Rattle.roots.proofs.Squares.{square}
-use Rattle.roots.specs.Core.{exponentOf, HypotIs, significandOf, sq, ticksOf}
+use Rattle.roots.specs.Steps.{exponentOf, HypotIs, significandOf, sq, ticksOf}
 use Rattle.roots.specs.Roots.{hypot, root}
 
 -- ---- what `hypot` says of values

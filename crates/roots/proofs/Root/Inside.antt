@@ -1,4 +1,4 @@
--- A number strictly between the squares of two neighbouring midpoints has the candidate between them as its root. Assumes nothing.
+-- A number strictly between the squares of two neighbouring midpoints has the candidate between them as its root.
 use Prim.Native.Nat.{_*_, _+_, _-_, _<_, ℕ, _≤_}
 use mathlib.Core.Path.{sym, _≡_}
 use native.Mathlib.Nat.{le-of-eq, le-of-lt, le-trans, lt-of-le-of-lt, lt-of-lt-of-le, mul-le-mul-right}
@@ -6,7 +6,7 @@ use native.Mathlib.Nat.{mul-lt-mul-of-pos-right, mul-mul-mul-comm, mul-pos}
 use native.Mathlib.Omega.{arith}
 use Rattle.roots.proofs.Root.Candidate.{NearestTo}
 use Rattle.roots.proofs.Squares.{lt-not-eq}
-use Rattle.roots.specs.Core.{NearestHalf, sq}
+use Rattle.roots.specs.Steps.{NearestHalf, sq}
 
 -- (2 j + 1)^2 < z < (2 j + 3)^2, in steps of u: 4 n lies between z and z + 1
 pub near-inside : (n z j u : ℕ) → 0 < u → sq (2 * j + 1) < z → z < sq (2 * j + 3) → z * sq u ≤ 4 * n

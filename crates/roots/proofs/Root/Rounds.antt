@@ -1,4 +1,4 @@
--- The root by its digits is one rounding of the sticky root. Assumes nothing.
+-- The root by its digits is one rounding of the sticky root.
 use Prim.Native.Nat.{_%_, _*_, _+_, _-_, _/_, _<_, _^_, compare, Ordering, Ordering·eq, Ordering·gt, Ordering·lt, suc}
 use Prim.Native.Nat.{zero-le, ℕ, _≤_}
 use mathlib.Core.Bool.{false}
@@ -18,7 +18,7 @@ use Rattle.roots.proofs.Root.Sticky.{stickyRoot, wholeRoot, wholeRoot-i
 use Rattle.roots.proofs.Root.Unique.{kept-is, NearestSteps, stickyRoot-div}
 use Rattle.roots.proofs.Rounding.Key.{unit}
 use Rattle.roots.proofs.Squares.{four-sq, sq-times-le, sq-times-lt, square}
-use Rattle.roots.specs.Core.{sq}
+use Rattle.roots.specs.Steps.{sq}
 use Rattle.roots.specs.Roots.{root, rootDigits}
 
 -- ---- the digits that are dropped

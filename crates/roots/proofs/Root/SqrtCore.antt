@@ -1,4 +1,4 @@
--- What the integer core finds of a significand is the bits of the square root. Assumes nothing.
+-- What the integer core finds of a significand is the bits of the square root.
 use Prim.Native.Nat.{_%_, _*_, _+_, _-_, _/_, _<_, _^_, ℕ, _≤_}
 use mathlib.Core.Bool.{false}
 use mathlib.Core.Logic.{inl, inr}
@@ -13,7 +13,7 @@ use Rattle.roots.proofs.Pattern.Bits.{units-bits}
 use Rattle.roots.proofs.Root.Candidate.{root-at}
 use Rattle.roots.proofs.Root.Inside.{inside-hi, inside-lo, near-inside, pred}
 use Rattle.roots.proofs.Squares.{sq-lt}
-use Rattle.roots.specs.Core.{NearestHalf, NearestHalfBelow, Radicand, sq, SqrtIs}
+use Rattle.roots.specs.Steps.{NearestHalf, NearestHalfBelow, Radicand, sq, SqrtIs}
 use Rattle.roots.specs.Roots.{root}
 
 -- ---- the square root

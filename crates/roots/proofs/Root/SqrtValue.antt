@@ -1,4 +1,4 @@
--- What `sqrt` of a value is, by its bits: normal, subnormal, zero, negative, infinite, NaN. Assumes nothing.
+-- What `sqrt` of a value is, by its bits: normal, subnormal, zero, negative, infinite, NaN.
 use Prim.Native.Nat.{_%_, _*_, _+_, _-_, _/_, _<_, _^_, suc, zero, ℕ, _≤_}
 use mathlib.Core.Bool.{Bool, false, true}
 use mathlib.Core.Logic.{inl, inr}
@@ -15,7 +15,7 @@ use Rattle.roots.proofs.Numbers.{decide}
 use Rattle.roots.proofs.Pattern.Bits.{bits-val, split}
 use Rattle.roots.proofs.Pattern.Special.{above-inf, minus-sign, plus-sign, unlike-itself}
 use Rattle.roots.proofs.Root.Digits.{exponent-lt}
-use Rattle.roots.specs.Core.{SqrtIs, SqrtOf}
+use Rattle.roots.specs.Steps.{SqrtIs, SqrtOf}
 use Rattle.roots.specs.Roots.{root, sqrt}
 
 -- ---- what `sqrt` says of a value

@@ -7,21 +7,22 @@ use native.Mathlib.Omega.{arith}
 use lib.Dec.{leb→le}
 use lib.Ieee.{Float, neg}
 use Rattle.arith.specs.F64.{_≺_, _≼_, 𝟘, ∞, e-9, e-12}
-use Rattle.section.specs.Boxes.{boxDistance, boxGap, boxHolds, boxPenetration, boxWitness, edgeBox, middle, probe}
-use Rattle.section.specs.Boxes.{result, wellInside}
-use Rattle.section.specs.Points.{pointDistance}
+use Rattle.arith.proofs.Laws.Sizes.{e-8-finite, Finite, finite-raise, half-finite, neg-finite, zero-finite}
+use Rattle.profile.proofs.Steps.{pick, upto-keeps}
+use Rattle.boxes.specs.Boxes.{boxDistance, boxGap, boxHolds, boxPenetration, boxWitness, edgeBox, middle, probe}
+use Rattle.points.specs.Overlap.{result}
+use Rattle.boxes.specs.Boxes.{wellInside}
+use Rattle.points.specs.Points.{pointDistance}
 use Rattle.profile.specs.Vertices.{count, endAt, hit, vertexAt}
 use Rattle.profile.specs.declared.shapes.Aabb.{Aabb}
 use Rattle.profile.specs.declared.shapes.Vertex.{Vertex}
-use Rattle.section.proofs.Demand.Bounds.{add-upTo, e-8-finite, Finite, finite-raise, finite-upTo, half-finite}
-use Rattle.section.proofs.Demand.Bounds.{neg-finite, zero-finite}
+use Rattle.section.proofs.Demand.Bounds.{add-upTo, finite-upTo}
 use Rattle.section.proofs.Demand.Clip.{edgeBox-upTo}
 use Rattle.section.proofs.Demand.Hits.{BoxUpTo, corners-upTo, endAt-upTo, HitUpTo, nearest-beside, nearest-hit}
 use Rattle.section.proofs.Demand.Hits.{none-yet, vertex-raise, vertexAt-upTo, VertexUpTo, VerticesUpTo}
 use Rattle.section.proofs.Demand.Points.{point-best}
-use Rattle.section.proofs.Demand.Steps.{pick, upto-keeps}
 
-pub middle-upTo : {a b : Vertex} → VertexUpTo 23 a → VertexUpTo 23 b → VertexUpTo 23 (middle a b)
+middle-upTo : {a b : Vertex} → VertexUpTo 23 a → VertexUpTo 23 b → VertexUpTo 23 (middle a b)
 middle-upTo A B =
     record {
       z = finite-upTo (half-finite (add-upTo (A .z) (B .z) tt) tt);

@@ -1,4 +1,4 @@
--- What the builders keep is taken by every query: no number from 1 to 5 applies to it.
+-- What the builders keep the queries accept: no number from 1 to 5 applies to it.
 use Prim.Native.Nat.{ℕ, suc, _+_, _-_, _*_, _%_, _≤_, _<_}
 use mathlib.Core.Bool.{Bool, not, _&&_, cond}
 use mathlib.Core.List.{List, [], _∷_, _++_}
@@ -9,26 +9,26 @@ use lib.Dec.{T, eqb→eq, ltb, ltb→lt, not-T, nltb→le}
 use lib.Ieee.{Float, nan, lt, neg, ofBits}
 use lib.Ieee.Fits.{and-l}
 use lib.ListN.{length, length-append, length-take, take}
-use Rattle.arith.specs.F64.{_≺_, _≼_, 𝟘, e-9}
+use Rattle.arith.specs.F64.{_≼_, 𝟘}
 use Rattle.arith.specs.Num.{isFinite}
-use Rattle.profile.specs.Kept.{polygonKept, sectionKept}
-use Rattle.profile.specs.Builder.{keep, lastOf, polygonOf, polygonPoints, raised, samePoint, sectionOf}
-use Rattle.profile.specs.Builder.{sectionPoints}
-use Rattle.profile.specs.Refusals.{fewer, more, numbersRefusal, odd, polygonRefusal, refuse, sectionRefusal}
-use Rattle.profile.specs.Vertices.{any, count, vertex, vertexAt}
+use Rattle.builders.specs.Kept.{polygonKept, polygonOwn, polygonTests, sectionKept, sectionOwn, sectionTests}
+use Rattle.builders.specs.Builder.{keep, lastOf, polygonOf, polygonPoints, raised, samePoint, sectionOf}
+use Rattle.builders.specs.Builder.{sectionPoints}
+use Rattle.profile.specs.Refusals.{fewer, listTests, more, odd, refusal}
+use Rattle.profile.specs.Vertices.{count, vertex, vertexAt}
 use Rattle.profile.specs.declared.shapes.Vertex.{Vertex}
-use Rattle.section.proofs.Demand.Acceptable.{Acceptable}
-use Rattle.section.proofs.Demand.Accepted.{numbers-taken, refuse-none, Taken}
-use Rattle.section.proofs.Demand.Lists.{All, all-append, all-at, all-take, cons, nil}
-use Rattle.section.proofs.Demand.Steps.{pick, upto-steps}
+use Rattle.profile.proofs.Refusals.Ordered.{Passes}
+use Rattle.profile.proofs.Refusals.Passed.{NumberTaken, ShapeTaken, Taken, passed, taken}
+use Rattle.profile.proofs.Each.{All, all-append, all-at, all-take, cons, nil}
+use Rattle.profile.proofs.Steps.{pick, upto-steps}
 
-zero-taken : Taken 𝟘
+zero-taken : NumberTaken 𝟘
 unfolding isFinite lt neg ofBits
 zero-taken = record { finite = tt; small = tt }
 
 -- ---- what is kept of n points: no more than n, and one at least of one or more
 record KeptOf (n : ℕ) (l : List Float) : Type 0 where
-  numbers : All Taken l
+  numbers : All NumberTaken l
   even : length l % 2 ≡ 0
   most : count l ≤ n
   least : 0 < n → 0 < count l
@@ -36,7 +36,7 @@ record KeptOf (n : ℕ) (l : List Float) : Type 0 where
 nothing-kept : KeptOf 0 []
 nothing-kept = record { numbers = nil; even = refl; most = le-refl 0; least = λ h. h }
 
-keep-kept : {n : ℕ} {v : Vertex} {l : List Float} → Taken (v .z) → Taken (v .r) → KeptOf n l → KeptOf (suc n) (keep v l)
+keep-kept : {n : ℕ} {v : Vertex} {l : List Float} → NumberTaken (v .z) → NumberTaken (v .r) → KeptOf n l → KeptOf (suc n) (keep v l)
 unfolding keep
 keep-kept {n} {v} {l} Z R K = pick (KeptOf (suc n)) (ltb 0 (count l) && samePoint (lastOf l) v) dropped (λ h. kept)
   where
@@ -56,27 +56,27 @@ keep-kept {n} {v} {l} Z R K = pick (KeptOf (suc n)) (ltb 0 (count l) && samePoin
         }
 
 -- every coordinate of a vertex is taken
-module _ {s : List Float} (S : All Taken s) (k : ℕ) (l : k < count s) where
-  z-taken : Taken (vertexAt s k .z)
+module _ {s : List Float} (S : All NumberTaken s) (k : ℕ) (l : k < count s) where
+  z-taken : NumberTaken (vertexAt s k .z)
   z-taken = all-at S nan (k * 2) (omega arith)
 
-  r-taken : Taken (vertexAt s k .r)
+  r-taken : NumberTaken (vertexAt s k .r)
   r-taken = all-at S nan (k * 2 + 1) (omega arith)
 
-sectionPoints-kept : {s : List Float} → All Taken s → KeptOf (count s) (sectionPoints s (count s))
+sectionPoints-kept : {s : List Float} → All NumberTaken s → KeptOf (count s) (sectionPoints s (count s))
 unfolding sectionPoints
 sectionPoints-kept {s} S =
     upto-steps KeptOf (λ k. keep (raised (vertexAt s k))) [] (count s) nothing-kept
-    (λ k l b K. keep-kept (z-taken S k l) (pick Taken (𝟘 ≼ vertexAt s k .r) (λ h. r-taken S k l) (λ h. zero-taken)) K)
+    (λ k l b K. keep-kept (z-taken S k l) (pick NumberTaken (𝟘 ≼ vertexAt s k .r) (λ h. r-taken S k l) (λ h. zero-taken)) K)
 
-polygonPoints-kept : {s : List Float} → All Taken s → KeptOf (count s) (polygonPoints s (count s))
+polygonPoints-kept : {s : List Float} → All NumberTaken s → KeptOf (count s) (polygonPoints s (count s))
 unfolding polygonPoints
 polygonPoints-kept {s} S =
     upto-steps KeptOf (λ k. keep (vertexAt s k)) [] (count s) nothing-kept
     (λ k l b K. keep-kept (z-taken S k l) (r-taken S k l) K)
 
 -- the closing points
-sectionOf-kept : {s : List Float} → All Taken s → 0 < count s → KeptOf (suc (suc (count s))) (sectionOf s)
+sectionOf-kept : {s : List Float} → All NumberTaken s → 0 < count s → KeptOf (suc (suc (count s))) (sectionOf s)
 unfolding sectionOf
 sectionOf-kept {s} S h = closed (sectionPoints s (count s)) (sectionPoints-kept S)
   where
@@ -88,7 +88,7 @@ sectionOf-kept {s} S h = closed (sectionPoints s (count s)) (sectionPoints-kept 
         (keep-kept (z-taken (K .numbers) (count kept - 1) (omega arith)) zero-taken K)
 
 -- a repeated closing vertex
-polygonOf-kept : {s : List Float} → All Taken s → KeptOf (count s) (polygonOf s)
+polygonOf-kept : {s : List Float} → All NumberTaken s → KeptOf (count s) (polygonOf s)
 unfolding polygonOf
 polygonOf-kept {s} S = opened (polygonPoints s (count s)) (polygonPoints-kept S)
   where
@@ -110,46 +110,43 @@ polygonOf-kept {s} S = opened (polygonPoints s (count s)) (polygonPoints-kept S)
         })
         (λ h. K)
 
-acceptable : {n : ℕ} {l : List Float} → n ≤ 256 → KeptOf n l → T (not (fewer 3 l)) → Acceptable l
-acceptable {n} {l} N K h =
-    record {
-      even = not-T (odd l) (λ g. let f = eqb→eq (length l % 2) 1 g in omega (arith, K .even));
-      long = h;
-      short = not-T (more 256 l) (λ g. let c = ltb→lt 256 (count l) g in omega (arith, K .most));
+-- what is kept passes numbers 1 to 5
+accepted : {n : ℕ} {l : List Float} → n ≤ 256 → KeptOf n l → T (not (fewer 3 l)) → refusal (listTests 3 256 l) ≡ 0
+accepted {n} {l} N K h =
+    passed 3 256 (l ∷ []) l []
+    (record {
+      shapes = cons (record {
+        even = not-T (odd l) (λ g. let f = eqb→eq (length l % 2) 1 g in omega (arith, K .even));
+        long = h;
+        short = not-T (more 256 l) (λ g. let c = ltb→lt 256 (count l) g in omega (arith, K .most));
+      }) nil;
       numbers = K .numbers;
-    }
+      rest-passes = nil;
+    })
 
 -- ---- the two builders
-pub section-built : (s space : List Float) → sectionRefusal s space ≡ 0 → Acceptable (sectionKept s space)
-unfolding sectionRefusal sectionKept
-section-built s space e =
-    let r₈ = refuse 8 (fewer 3 (sectionOf s)) 0 in
-    let r₇ = refuse 7 (ltb (length space) (2 * (count s + 2))) r₈ in
-    let r₆ = refuse 6 (any (λ k. vertexAt s k .r ≺ neg e-9) (count s)) r₇ in
-    let r₄ = numbersRefusal s r₆ in
-    let r₃ = refuse 3 (more 254 s) r₄ in
-    let c₁ = refuse-none 0 (odd s) (refuse 2 (fewer 2 s) r₃) e in
-    let c₂ = refuse-none 1 (fewer 2 s) r₃ (c₁ .1) in
-    let c₃ = refuse-none 2 (more 254 s) r₄ (c₂ .1) in
-    let c₅ = numbers-taken s r₆ (c₃ .1) in
-    let c₆ = refuse-none 5 (any (λ k. vertexAt s k .r ≺ neg e-9) (count s)) r₇ (c₅ .1) in
-    let c₇ = refuse-none 6 (ltb (length space) (2 * (count s + 2))) r₈ (c₆ .1) in
-    let c₈ = refuse-none 7 (fewer 3 (sectionOf s)) 0 (c₇ .1) in
-    let n = nltb→le (count s) 2 (c₂ .0) in
-    let m = nltb→le 254 (count s) (c₃ .0) in
-    rw e (acceptable {n = suc (suc (count s))} (omega arith) (sectionOf-kept (c₅ .0) (omega arith)) (c₈ .0))
+pub section-built : (s space : List Float) → refusal (sectionTests s space) ≡ 0
+    → refusal (listTests 3 256 (sectionKept s space)) ≡ 0
+unfolding sectionKept
+section-built s space e = rw e (go (p .shapes) (p .rest-passes))
+  where
+    p : Taken 2 254 (s ∷ []) s (sectionOwn s space)
+    p = taken 2 254 (s ∷ []) s (sectionOwn s space) tt e
 
-pub polygon-built : (s space : List Float) → polygonRefusal s space ≡ 0 → Acceptable (polygonKept s space)
-unfolding polygonRefusal polygonKept
-polygon-built s space e =
-    let r₈ = refuse 8 (fewer 3 (polygonOf s)) 0 in
-    let r₇ = refuse 7 (ltb (length space) (2 * count s)) r₈ in
-    let r₄ = numbersRefusal s r₇ in
-    let r₃ = refuse 3 (more 256 s) r₄ in
-    let c₁ = refuse-none 0 (odd s) (refuse 2 (fewer 3 s) r₃) e in
-    let c₂ = refuse-none 1 (fewer 3 s) r₃ (c₁ .1) in
-    let c₃ = refuse-none 2 (more 256 s) r₄ (c₂ .1) in
-    let c₅ = numbers-taken s r₇ (c₃ .1) in
-    let c₇ = refuse-none 6 (ltb (length space) (2 * count s)) r₈ (c₅ .1) in
-    let c₈ = refuse-none 7 (fewer 3 (polygonOf s)) 0 (c₇ .1) in
-    rw e (acceptable (nltb→le 256 (count s) (c₃ .0)) (polygonOf-kept (c₅ .0)) (c₈ .0))
+    go : All (ShapeTaken 2 254) (s ∷ []) → All Passes (sectionOwn s space) → refusal (listTests 3 256 (sectionOf s)) ≡ 0
+    go (cons t nil) (cons below (cons small (cons three nil))) =
+        let n = nltb→le (count s) 2 (t .long) in
+        let m = nltb→le 254 (count s) (t .short) in
+        accepted {n = suc (suc (count s))} (omega arith) (sectionOf-kept (p .numbers) (omega arith)) three
+
+pub polygon-built : (s space : List Float) → refusal (polygonTests s space) ≡ 0
+    → refusal (listTests 3 256 (polygonKept s space)) ≡ 0
+unfolding polygonKept
+polygon-built s space e = rw e (go (p .shapes) (p .rest-passes))
+  where
+    p : Taken 3 256 (s ∷ []) s (polygonOwn s space)
+    p = taken 3 256 (s ∷ []) s (polygonOwn s space) tt e
+
+    go : All (ShapeTaken 3 256) (s ∷ []) → All Passes (polygonOwn s space) → refusal (listTests 3 256 (polygonOf s)) ≡ 0
+    go (cons t nil) (cons small (cons three nil)) =
+        accepted (nltb→le 256 (count s) (t .short)) (polygonOf-kept (p .numbers)) three

@@ -7,18 +7,21 @@ use lib.Dec.{T, leb→le}
 use lib.Ieee.{Float, neg}
 use Rattle.arith.specs.F64.{_⊘_, _≺_, _≼_, 𝟘, 𝟙, ∞, e-15, e-18}
 use Rattle.arith.specs.Num.{abs}
-use Rattle.section.specs.Boxes.{clip, clipSide, corners, edgeBox, outside, part}
-use Rattle.section.specs.Segments.{segments}
+use Rattle.arith.proofs.Laws.Quotients.{abs-not-e-18, between, div-finite, InUnit, one-inUnit, zero-inUnit}
+use Rattle.arith.proofs.Laws.SizedOrder.{below-key, not-below-key}
+use Rattle.arith.proofs.Laws.Sizes.{Finite, neg-finite, zero-finite}
+use Rattle.profile.proofs.Steps.{pick}
+use Rattle.segments.specs.Clip.{clip, clipSide, outside, part}
+use Rattle.boxes.specs.Boxes.{corners, edgeBox}
+use Rattle.segments.specs.Segments.{segments}
 use Rattle.profile.specs.Vertices.{endAt, hit, vertexAt}
 use Rattle.profile.specs.declared.shapes.Aabb.{Aabb}
-use Rattle.section.specs.declared.shapes.Clip.{Clip}
+use Rattle.segments.specs.declared.shapes.Clip.{Clip}
 use Rattle.profile.specs.declared.shapes.Vertex.{Vertex}
-use Rattle.section.proofs.Demand.Bounds.{below-key, Finite, neg-finite, not-below-key, sub-upTo, zero-finite}
+use Rattle.section.proofs.Demand.Bounds.{sub-upTo}
 use Rattle.section.proofs.Demand.Hits.{BoxUpTo, corners-upTo, endAt-upTo, HitUpTo, nearest-hit, none-yet}
 use Rattle.section.proofs.Demand.Hits.{vertex-raise, vertexAt-upTo, VertexUpTo}
-use Rattle.section.proofs.Demand.Quotients.{abs-not-e-18, between, div-finite, InUnit, one-inUnit, zero-inUnit}
 use Rattle.section.proofs.Demand.Segments.{along-upTo, minus-difference, segments-upTo}
-use Rattle.section.proofs.Demand.Steps.{pick}
 
 pub record ClipInUnit (c : Clip) : Type 0 where
   pub t0 : InUnit (c .t0)
@@ -58,7 +61,7 @@ module _ {p q : Float} {c : Clip} (P : Finite 24 p) (Q : Finite 24 q) (C : ClipI
           let under = le-of-lt (below-key (X h) (C .t1 .most) m) in
           record { t0 = C .t0; t1 = between (X h) (C .t0) (C .t1) over under }
 
-pub clip-inUnit : {x : Aabb} {a b : Vertex} → BoxUpTo 23 x → VertexUpTo 23 a → VertexUpTo 23 b → ClipInUnit (clip x a b)
+clip-inUnit : {x : Aabb} {a b : Vertex} → BoxUpTo 23 x → VertexUpTo 23 a → VertexUpTo 23 b → ClipInUnit (clip x a b)
 unfolding clip
 clip-inUnit X A B =
     let d = minus-difference B A in

@@ -6,21 +6,21 @@ use mathlib.Core.Path.{refl}
 use lib.Ieee.{Float}
 use Rattle.arith.specs.F64.{_≼_, 𝟘, ∞, e-12}
 use Rattle.arith.specs.Num.{min, isFinite}
-use Rattle.section.specs.Convex.{anyCrossing, convexDistance, convexGap, convexNear, convexPenetration}
-use Rattle.section.specs.Convex.{convexPoint, convexRow, oneSided}
-use Rattle.section.specs.Points.{pointDistance}
-use Rattle.section.specs.Segments.{closest, segments}
+use Rattle.arith.proofs.Laws.Sizes.{Finite, neg-finite, zero-finite}
+use Rattle.profile.proofs.Steps.{pick, upto-makes}
+use Rattle.convex.specs.Convex.{anyCrossing, convexDistance, convexGap, convexNear, convexPenetration}
+use Rattle.convex.specs.Convex.{convexPoint, convexRow, oneSided}
+use Rattle.points.specs.Points.{pointDistance}
+use Rattle.segments.specs.Segments.{closest, segments}
 use Rattle.profile.specs.Vertices.{count, endAt, hit, vertexAt}
 use Rattle.profile.specs.declared.shapes.CollisionHit.{CollisionHit}
 use Rattle.profile.specs.declared.shapes.Vertex.{Vertex}
-use Rattle.section.proofs.Demand.Bounds.{Finite, neg-finite, zero-finite}
 use Rattle.section.proofs.Demand.Boxes.{result-finite}
 use Rattle.section.proofs.Demand.Hits.{BestUpTo, endAt-upTo, found, HitUpTo, LeastUpTo, min-new, nearest-beside}
 use Rattle.section.proofs.Demand.Hits.{nearest-hit, no-distance, none-yet, some-distance, vertex-raise}
 use Rattle.section.proofs.Demand.Hits.{vertexAt-upTo, VertexUpTo, VerticesUpTo}
 use Rattle.section.proofs.Demand.Points.{point-best}
 use Rattle.section.proofs.Demand.Segments.{closest-upTo, segments-upTo}
-use Rattle.section.proofs.Demand.Steps.{pick, upto-makes}
 
 convexNear-finite : {c : List Float} → VerticesUpTo 23 c → {p : Vertex} → VertexUpTo 23 p → Finite 27 (convexNear c p)
 unfolding convexNear

@@ -12,15 +12,15 @@ use lib.ListN.{getD, length}
 use Rattle.arith.specs.F64.{_≺_, _≼_, ∞}
 use Rattle.arith.specs.Num.{min}
 use Rattle.arith.proofs.Laws.OrderHeld.{none-above-inf}
-use Rattle.section.specs.Boxes.{corners}
+use Rattle.arith.proofs.Laws.Extended.{below-infinity, finite-not-nan, infinity-not-le}
+use Rattle.arith.proofs.Laws.Sizes.{Finite, finite-ends, finite-raise}
+use Rattle.profile.proofs.Steps.{pick, upto-keeps, upto-makes}
+use Rattle.boxes.specs.Boxes.{corners}
 use Rattle.section.specs.Demand.{UpTo}
 use Rattle.profile.specs.Vertices.{count, endAt, nearer, nearestOf, next, vertexAt}
 use Rattle.profile.specs.declared.shapes.Aabb.{Aabb}
 use Rattle.profile.specs.declared.shapes.CollisionHit.{CollisionHit}
 use Rattle.profile.specs.declared.shapes.Vertex.{Vertex}
-use Rattle.section.proofs.Demand.Bounds.{below-infinity, Finite, finite-upTo}
-use Rattle.section.proofs.Demand.Bounds.{infinity-not-le, upTo-number}
-use Rattle.section.proofs.Demand.Steps.{pick, upto-keeps, upto-makes}
 use Rattle.section.proofs.Demand.UpTo.{upTo-raise}
 
 pub record VertexUpTo (n : ℕ) (v : Vertex) : Type 0 where
@@ -80,9 +80,16 @@ pub data BestUpTo (n : ℕ) (h : CollisionHit) : Type 0 where
   found : HitUpTo n h → BestUpTo n h
   none-yet : h .distance ≡ ∞ → VertexUpTo 25 (h .witness) → BestUpTo n h
 
+pub hit-raise : {i j : ℕ} {h : CollisionHit} → HitUpTo i h → T (leb i j) → HitUpTo j h
+hit-raise H t = record { distance = finite-raise (H .distance) t; witness = H .witness }
+
+pub best-raise : {i j : ℕ} {h : CollisionHit} → BestUpTo i h → T (leb i j) → BestUpTo j h
+best-raise (found H) t = found (hit-raise H t)
+best-raise (none-yet e w) t = none-yet e w
+
 pub best-number : {n : ℕ} {h : CollisionHit} → BestUpTo n h → T (not (isNan (h .distance)))
 unfolding isNan
-best-number (found H) = upTo-number (finite-upTo (H .distance))
+best-number (found H) = finite-not-nan _ (finite-ends (H .distance))
 best-number (none-yet e w) = rw e tt
 
 pub best-witness : {n : ℕ} {h : CollisionHit} → BestUpTo n h → VertexUpTo 25 (h .witness)
@@ -96,9 +103,9 @@ module _ {n : ℕ} {a b : CollisionHit} where
       pick (HitUpTo n) (b .distance ≺ a .distance) (λ h. C) (λ h. absurd (T-not (b .distance ≺ a .distance) h less))
     where
       less : T (b .distance ≺ a .distance)
-      less = rw e (below-infinity (finite-upTo (C .distance)))
+      less = rw e (below-infinity _ (finite-ends (C .distance)))
 
-  pub nearer-old : HitUpTo n a → BestUpTo n b → HitUpTo n (nearer a b)
+  nearer-old : HitUpTo n a → BestUpTo n b → HitUpTo n (nearer a b)
   nearer-old A (found C) = pick (HitUpTo n) (b .distance ≺ a .distance) (λ h. C) (λ h. A)
   nearer-old A (none-yet e C) =
       pick (HitUpTo n) (b .distance ≺ a .distance)
@@ -128,4 +135,4 @@ pub data LeastUpTo (n : ℕ) (x : Float) : Type 0 where
 pub min-new : {n : ℕ} {x y : Float} → LeastUpTo n x → Finite n y → Finite n (min x y)
 min-new {n} {x} {y} (some-distance X) Y = pick (Finite n) (x ≼ y) (λ h. X) (λ h. Y)
 min-new {n} {x} {y} (no-distance e) Y =
-    pick (Finite n) (x ≼ y) (λ h. absurd (infinity-not-le (finite-upTo Y) (rw e at h))) (λ h. Y)
+    pick (Finite n) (x ≼ y) (λ h. absurd (infinity-not-le _ (finite-ends Y) (rw e at h))) (λ h. Y)

@@ -5,24 +5,25 @@ use mathlib.Core.Bool.{Bool, true, false, not, _||_, cond}
 use mathlib.Core.List.{List}
 use mathlib.Core.Path.{_≡_, refl}
 use lib.Dec.{T, T-not}
-use lib.Ieee.{Float, neg}
+use lib.Ieee.{Float, binary64, neg}
 use Rattle.arith.specs.F64.{_≺_, _≼_, 𝟘, ∞, e-9, e-12}
 use Rattle.arith.specs.Num.{abs, isFinite}
 use Rattle.arith.specs.declared.vector.Vec3.{Vec3}
+use Rattle.arith.proofs.Laws.Extended.{infinity-less}
+use Rattle.arith.proofs.Laws.Sizes.{Finite, neg-finite, zero-finite, finite-ends}
+use Rattle.profile.proofs.Steps.{any-found, any-not, pick, upto-keeps, upto-reaches}
 use Rattle.section.specs.Demand.{UpTo, offAxis}
-use Rattle.section.specs.Points.{inSection, meridian, pointDistance, sphereDistance, surface, surfaceNear}
-use Rattle.section.specs.Points.{surfaceStep}
-use Rattle.section.specs.Segments.{closest}
+use Rattle.points.specs.Points.{inSection, meridian, pointDistance, sphereDistance, surface, surfaceNear}
+use Rattle.points.specs.Points.{surfaceStep}
+use Rattle.segments.specs.Segments.{closest}
 use Rattle.profile.specs.Vertices.{count, endAt, hit, nearer, next, vertexAt}
 use Rattle.profile.specs.declared.shapes.CollisionHit.{CollisionHit}
 use Rattle.profile.specs.declared.shapes.Sphere.{Sphere}
 use Rattle.profile.specs.declared.shapes.Vertex.{Vertex}
-use Rattle.section.proofs.Demand.Bounds.{Finite, finite-upTo, hypot-upTo, infinity-less, neg-finite, sub-upTo}
-use Rattle.section.proofs.Demand.Bounds.{zero-finite}
+use Rattle.section.proofs.Demand.Bounds.{finite-upTo, hypot-upTo, sub-upTo}
 use Rattle.section.proofs.Demand.Hits.{BestUpTo, endAt-upTo, found, HitUpTo, nearer-new, next-below, none-yet}
 use Rattle.section.proofs.Demand.Hits.{vertex-raise, vertexAt-upTo, VertexUpTo, VerticesUpTo}
 use Rattle.section.proofs.Demand.Segments.{closest-upTo}
-use Rattle.section.proofs.Demand.Steps.{any-found, any-not, pick, upto-keeps, upto-reaches}
 use Rattle.section.proofs.Demand.UpTo.{upTo-raise}
 
 first-vertex : {s : List Float} → VerticesUpTo 23 s → VertexUpTo 25 (vertexAt s 0)
@@ -107,7 +108,7 @@ module _ {s : List Float} (S : VerticesUpTo 23 s) {p : Vertex} (P : VertexUpTo 2
           pick (Finite 27) (isFinite d)
           (λ h. pick (Finite 27) (d ≼ e-12) (λ k. zero-finite 27)
           (λ k. pick (Finite 27) (inSection s p) (λ l. neg-finite D) (λ l. D)))
-          (λ h. absurd (T-not (isFinite d) h (finite-upTo D .ends)))
+          (λ h. absurd (T-not (isFinite d) h (finite-ends D)))
 
   pub point-best : BestUpTo 27 (pointDistance s p)
   point-best = offAxis-best S point-upTo
@@ -128,5 +129,5 @@ sphere-upTo {s} S {b} C R =
     let N = point-upTo S (meridian-upTo C) in
     record {
       off = λ h. record { distance = sub-upTo (finite-upTo (N .off h .distance)) R tt; witness = N .off h .witness };
-      on = λ h. rw (N .on h, infinity-less R);
+      on = λ h. rw (N .on h, infinity-less (b .radius) (R .ends) binary64);
     }

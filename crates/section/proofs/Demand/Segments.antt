@@ -1,19 +1,25 @@
 -- For coordinates up to 2 ^ 23, the closest point of a segment, and of two segments, is at most 2 ^ 25, and its
 -- distance 2 ^ 27: what divides is over 1e-24 or 1e-18, and what is clamped lies from 0 to 1.
+use Prim.Native.Nat.{ℕ}
 use mathlib.Core.Bool.{not, cond}
 use lib.Dec.{T}
 use lib.Ieee.{Float, neg}
 use Rattle.arith.specs.F64.{_⊕_, _⊖_, _⊗_, _⊘_, _≺_, _≼_, 𝟘, 𝟙, e-18, e-24}
 use Rattle.arith.specs.Num.{abs}
-use Rattle.section.specs.Segments.{along, apart, clamp01, closest, closestPlaces, dot, minus, places, segments}
-use Rattle.section.specs.declared.shapes.Places.{Places}
+use Rattle.arith.proofs.Laws.Quotients.{abs-over-e-18, div-finite, inside, InUnit, one-inUnit, over-e-24, zero-inUnit}
+use Rattle.arith.proofs.Laws.Sizes.{add-finite, Finite, finite-raise, hypot-finite, mul-finite, neg-finite, sub-finite}
+use Rattle.profile.proofs.Steps.{pick}
+use Rattle.segments.specs.Segments.{along, apart, clamp01, closest, closestPlaces, dot, minus, places, segments}
+use Rattle.segments.specs.declared.shapes.Places.{Places}
 use Rattle.profile.specs.declared.shapes.Vertex.{Vertex}
-use Rattle.section.proofs.Demand.Bounds.{add-finite, add-upTo, Finite, finite-raise, finite-upTo, hypot-finite}
-use Rattle.section.proofs.Demand.Bounds.{mul-finite, neg-finite, sub-finite, sub-upTo}
+use Rattle.section.proofs.Demand.Bounds.{add-upTo, finite-upTo}
+use Rattle.section.proofs.Demand.Bounds.{sub-upTo}
 use Rattle.section.proofs.Demand.Hits.{HitUpTo, vertex-raise, VertexUpTo}
-use Rattle.section.proofs.Demand.Quotients.{abs-over-e-18, clamped, div-finite, inside, InUnit, one-inUnit}
-use Rattle.section.proofs.Demand.Quotients.{over-e-24, zero-inUnit}
-use Rattle.section.proofs.Demand.Steps.{pick}
+
+-- clamped to the part from 0 to 1
+pub clamped : {n : ℕ} {t : Float} → Finite n t → InUnit (clamp01 t)
+clamped {t = t} X =
+    pick InUnit (t ≺ 𝟘) (λ h. zero-inUnit) (λ h. pick InUnit (𝟙 ≺ t) (λ k. one-inUnit) (λ k. inside X h k))
 
 -- the step from one vertex to another
 pub record Difference (v : Vertex) : Type 0 where

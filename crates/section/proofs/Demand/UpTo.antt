@@ -1,44 +1,23 @@
--- The specification's `UpTo n`, finite and at most 2 ^ n as the floats' own order tests it, bounds the number itself.
+-- The specification's `UpTo n`, finite and at most 2 ^ n as the floats' own order tests it, bounds the number itself: finite values
+-- compare as fractions over one denominator.
 -- What is finite and within 01's limit is `UpTo 20`.
-use Prim.Native.Nat.{ℕ, _+_, _*_, _^_, _≤_, _<_}
-use mathlib.Core.Bool.{Bool, true, false, not, _&&_, _||_, cond}
-use mathlib.Core.Logic.{inl, inr}
+use Prim.Native.Nat.{ℕ, suc, _+_, _*_, _^_, _≤_, _<_}
+use mathlib.Core.Bool.{Bool, true, false, not, cond}
 use mathlib.Core.Path.{_≡_, ap, sym, _∙_}
-use native.Mathlib.Nat.{eq-or-lt-of-le, le-of-eq, le-of-lt, le-of-mul-le-mul-right, le-trans, mul-le-mul-right, mul-pos}
+use native.Mathlib.Nat.{le-of-eq, le-of-mul-le-mul-right, le-trans, mul-le-mul-right}
 use native.Mathlib.Nat.{mul-right-comm, one-mul}
 use native.Mathlib.Omega.{arith}
-use lib.Dec.{T, eqb, eqb→eq, ltb, ltb→lt, lt→ltb, leb, leb→le, nltb→le}
-use lib.Ieee.{Float, nan, inf, fin, binary64, down, eq, le, lt, neg, ofBits, up}
-use lib.Ieee.Fits.{and-i, and-l, down-pos, eq→eqb}
+use lib.Dec.{T, ltb, ltb→lt, leb, leb→le, le→leb, nltb→le}
+use lib.Ieee.{Float, nan, inf, fin, binary64, down, lt, neg, ofBits, up}
 use lib.IntN.{ℤ, pos}
-use lib.Pow.{pow-add, pow-pos}
+use lib.Pow.{pow-add}
 use Rattle.arith.specs.F64.{_≺_, _≼_, limit}
 use Rattle.arith.specs.Num.{abs, isFinite}
 use Rattle.arith.proofs.Laws.BoundedValue.{bounded-value, BoundedValue, value-up}
-use Rattle.roots.proofs.Rounding.Key.{unit, unit-pos}
+use Rattle.arith.proofs.Laws.Sizes.{Given}
+use Rattle.roots.proofs.Rounding.Key.{side, unit, unit-pos}
+use Rattle.arith.proofs.Laws.Order.{finite-le}
 use Rattle.section.specs.Demand.{UpTo}
-
-or-l : (a b : Bool) → T a → T (a || b)
-or-l true b h = tt
-or-l false b h = absurd h
-
-or-r : (a b : Bool) → T b → T (a || b)
-or-r true b h = tt
-or-r false b h = h
-
-or-elim : {P : Type 0} (a b : Bool) → (T a → P) → (T b → P) → T (a || b) → P
-or-elim true b f g h = f tt
-or-elim false b f g h = g h
-
--- a ≤ c, as `le` tests it on two of one sign
-le-test : (a c : ℕ) (b : Bool) → a ≤ c → (a ≡ c → T b) → T (ltb a c || (b && true))
-le-test a c b h f = elim (eq-or-lt-of-le h) [
-  | inl e ↦ or-r (ltb a c) (b && true) (and-i b true (f e) tt)
-  | inr l ↦ or-l (ltb a c) (b && true) (lt→ltb a c l)
-]
-
-test-le : (a c : ℕ) (b : Bool) → (T b → a ≡ c) → T (ltb a c || (b && true)) → a ≤ c
-test-le a c b f = or-elim (ltb a c) (b && true) (λ h. le-of-lt (ltb→lt a c h)) (λ h. le-of-eq (f (and-l b true h)))
 
 -- m * 2 ^ e and 2 ^ n as `le` compares them
 abbrev size : ℕ → ℤ → ℕ
@@ -57,52 +36,43 @@ value-of n {s} {m} {e} h =
     bounded-value (le-trans (mul-le-mul-right (unit binary64) k) (le-of-eq (sym (scale n (down e)))))
 
 -- ---- both ways
-pub upTo-value : {n : ℕ} {x : Float} → UpTo n x → BoundedValue binary64 (n + 1074) x
-unfolding isFinite le lt eq neg
+upTo-value : {n : ℕ} {x : Float} → UpTo n x → BoundedValue binary64 (n + 1074) x
+unfolding isFinite neg
 upTo-value {n} {x} U = go x (U .ends) (U .least) (U .most)
   where
+    within : (s : Bool) (a c : ℕ) → side (suc (c + a)) true c ≤ side (suc (c + a)) s a
+        → side (suc (a + c)) s a ≤ side (suc (a + c)) false c → a ≤ c
+    within false a c l h = omega arith
+    within true a c l h = omega arith
+
     go : (x : Float) → T (isFinite x) → T (neg (fin false 1 (pos n)) ≼ x) → T (x ≼ fin false 1 (pos n))
         → BoundedValue binary64 (n + 1074) x
     go nan f l h = absurd f
     go (inf s) f l h = absurd f
-    go (fin false m e) f l h =
-        let a = size m e in
-        let c = most n e in
-        value-of n (test-le a c (eqb a c) (eqb→eq a c) h)
-    go (fin true m e) f l h =
-        let a = size m e in
-        let c = most n e in
-        value-of n (test-le a c (eqb c a) (λ i. sym (eqb→eq c a i)) l)
+    go (fin s m e) f l h =
+        value-of n (within s (size m e) (most n e) (leb→le _ _ (rw (finite-le true s 1 m (pos n) e) at l))
+        (leb→le _ _ (rw (finite-le s false m 1 e (pos n)) at h)))
+
+pub upTo-given : {n : ℕ} {x : Float} → UpTo n x → Given n x
+upTo-given U = record { value = upTo-value U }
 
 pub value-upTo : (n : ℕ) {x : Float} → BoundedValue binary64 (n + 1074) x → UpTo n x
-unfolding isFinite le lt eq neg
-value-upTo n (bounded-value {s} {m} {e} X) = by s
+unfolding isFinite neg
+value-upTo n (bounded-value {s} {m} {e} X) =
+    let w = within s (size m e) (most n e) h in
+    record {
+      ends = tt;
+      least = rw (finite-le true s 1 m (pos n) e) (le→leb _ _ (w .0));
+      most = rw (finite-le s false m 1 e (pos n)) (le→leb _ _ (w .1));
+    }
   where
-    a : ℕ
-    a = size m e
-
-    c : ℕ
-    c = most n e
-
-    h : a ≤ c
+    h : size m e ≤ most n e
     h = let k = le-of-mul-le-mul-right (le-trans X (le-of-eq (scale n (down e)))) (unit-pos binary64) in omega arith
 
-    p : 0 < c
-    p = rw one-mul (mul-pos (pow-pos n) (down-pos e))
-
-    by : (s : Bool) → UpTo n (fin s m e)
-    by false =
-        record {
-          ends = tt;
-          least = or-l (ltb 0 (c + a)) _ (lt→ltb 0 (c + a) (omega (arith, p)));
-          most = le-test a c (eqb a c) h eq→eqb;
-        }
-    by true =
-        record {
-          ends = tt;
-          least = le-test a c (eqb c a) h (λ i. eq→eqb (sym i));
-          most = or-l (ltb 0 (a + c)) _ (lt→ltb 0 (a + c) (omega (arith, p)));
-        }
+    within : (s : Bool) (a c : ℕ) → a ≤ c → (side (suc (c + a)) true c ≤ side (suc (c + a)) s a)
+        × (side (suc (a + c)) s a ≤ side (suc (a + c)) false c)
+    within false a c h = omega arith
+    within true a c h = omega arith
 
 pub upTo-raise : {i j : ℕ} {x : Float} → UpTo i x → T (leb i j) → UpTo j x
 upTo-raise {i} {j} U t =

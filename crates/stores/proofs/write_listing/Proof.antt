@@ -1,8 +1,7 @@
--- `stores::write_listing` is safe: the listing lies within its array. Assumes nothing.
+-- `stores::write_listing` is safe: the listing lies within its array.
 use native.Mathlib.Omega.{arith}
 use lib.ListN.{length-take}
-use Rattle.store.specs.Listing.{inputListing}
-use Rattle.store.proofs.Listed.{front-within}
+use Rattle.store_listing.proofs.Listed.{front-within}
 use borrow.Author.Needs.{needs}
 use Rattle.stores.proofs.write_listing.Statement.{statement}
 use Rattle.stores.proofs.write_listing.Tie as tie
@@ -11,12 +10,12 @@ list-input-requires : tie.Need-list-input-requires
 list-input-requires c κs = search needs
 
 array-share-prefix-text : tie.Need-array-share-prefix-text
-array-share-prefix-text c = front-within (inputListing _ _) _ (c .list-input .ensures .0) (c .list-input .ensures .1)
+array-share-prefix-text c = front-within (c .list-input .ensures)
 
 slice-aggregate-write-all : tie.Need-slice-aggregate-write-all
 slice-aggregate-write-all c =
     let c₁ = c .before in
-    simp length-take (omega (arith, front-within (inputListing _ _) _ (c₁ .list-input .ensures .0) (c₁ .list-input .ensures .1)))
+    simp length-take (omega (arith, front-within (c₁ .list-input .ensures)))
 
 write-all-requires : tie.Need-write-all-requires
 write-all-requires c κs = search needs

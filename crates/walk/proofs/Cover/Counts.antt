@@ -1,5 +1,5 @@
 -- How many boxes the walk measures, when it is cut, and how many pieces wait: at most one more than the halvings that
--- the deepest has behind it. Assumes nothing.
+-- the deepest has behind it.
 use Prim.Native.Nat.{ℕ, zero, suc, _+_, _≤_}
 use mathlib.Core.Path.{_≡_, refl}
 use mathlib.Core.Logic.{inl, inr, _⊎_}
@@ -10,10 +10,10 @@ use lib.ListN.{length}
 use lib.Ieee.{Float}
 use Rattle.walk.specs.Walk.{Walk, waiting, measured, walk, left}
 use Rattle.walk.specs.Cover.{waits}
-use Rattle.walk.specs.declared.shapes.RadialBand.{RadialBand}
+use Rattle.bands.specs.declared.shapes.RadialBand.{RadialBand}
 use Rattle.walk.specs.declared.shapes.Piece.{Piece}
-use Rattle.walk.proofs.Cover.Numbers.{Number}
-use Rattle.walk.proofs.Cover.Sizes.{InLimit}
+use Rattle.arith.proofs.Laws.Sizes.{Number}
+use Rattle.bands.proofs.Limit.{InLimit}
 use Rattle.walk.proofs.Cover.Depth.{Tolerance}
 use Rattle.walk.proofs.Cover.Turns.{Ready, turn-of, next}
 

@@ -1,47 +1,44 @@
--- The walk covers: demand 3 for every tolerance from 1e-9 on, every cap from 1 on and every number of sample intervals.
--- Assumes nothing.
+-- The walk covers: demand 3 for every tolerance from 1e-9 on, every cap from 1 on and every number of sample intervals. What is
+-- found (Found), counted (Counts) and least (Least), in the words of the statement.
 use Prim.Native.Nat.{ℕ, zero, suc, _≤_}
 use mathlib.Core.Path.{_≡_, refl}
 use mathlib.Core.Logic.{inl, inr, _⊎_}
-use mathlib.Core.Bool.{false, not, _||_}
+use mathlib.Core.Bool.{false, _||_}
 use mathlib.Core.List.{List, [], _∷_}
 use native.Mathlib.Nat.{le-refl, le-trans, le-of-eq, add-zero}
 use native.Mathlib.Omega.{arith}
 use lib.ListN.{length}
 use lib.Dec.{T, lit≤, lit<}
-use lib.Ieee.{Float, nan, inf, fin, binary64, fits, isNan, le}
+use lib.Ieee.{Float, binary64, fits}
 use Rattle.arith.specs.F64.{_⊕_, _⊖_, _≺_, _≼_}
 use Rattle.roots.proofs.Rounding.KeyOrder.{le→key, key→le, key→lt}
 use Rattle.arith.proofs.Laws.Bounded.{between-bounded}
 use Rattle.walk.specs.Pieces.{wholeWidth, boxOf, variation}
 use Rattle.walk.specs.Walk.{Walk, boxHit, start, sampled, waiting, measured, walk, walkAll}
 use Rattle.walk.specs.Cover.{Covered, Covers}
-use Rattle.walk.specs.declared.shapes.RadialBand.{RadialBand}
+use Rattle.bands.specs.declared.shapes.RadialBand.{RadialBand}
 use Rattle.walk.specs.declared.shapes.Piece.{Piece}
 use Rattle.arith.proofs.Laws.Extended.{sum-number}
-use Rattle.walk.proofs.Cover.Numbers.{K, Number, make-number, bounded-number}
-use Rattle.walk.proofs.Cover.Distances.{box-number, sampled-number}
-use Rattle.walk.proofs.Cover.Sizes.{Place, InLimit}
-use Rattle.walk.proofs.Cover.Boxes.{Sound, variation-bounded, box-inner, box-outer}
+use Rattle.arith.proofs.Laws.OrderHeld.{T→true, held-number, le-right}
+use Rattle.arith.proofs.Laws.SizedOrder.{key-le}
+use Rattle.arith.proofs.Laws.Sizes.{Finite, K, Number, finite-number}
+use Rattle.section.proofs.Numbers.{box-number}
+use Rattle.bands.proofs.Limit.{InLimit}
+use Rattle.walk.proofs.Demand.Pieces.{Sound, variation-finite, wholeWidth-sound}
+use Rattle.walk.proofs.Demand.Samples.{sampled-number}
+use Rattle.walk.proofs.Cover.Boxes.{box-inner, box-outer}
 use Rattle.walk.proofs.Cover.Depth.{Tolerance, whole}
 use Rattle.walk.proofs.Cover.Turns.{Settles, Ready}
 use Rattle.walk.proofs.Cover.Found.{Found, found, best-keeps}
 use Rattle.walk.proofs.Cover.Counts.{boxes, due, few}
 use Rattle.walk.proofs.Cover.Least.{least}
 
--- what is asked of a walk: a band within the limit, a tolerance from 1e-9 on, a cap from 1 on
+-- what is asked of a walk: a band within the limit, whose radius is an f64, a tolerance from 1e-9 on, a cap from 1 on
 pub record Settings (b : RadialBand) (tol : Float) (cap : ℕ) : Type 0 where
   pub band : InLimit b
+  pub held : T (fits binary64 (b .radius))
   pub tolerance : Tolerance tol
   pub some-box : 1 ≤ cap
-
--- what compares with a number is one
-above-number : (x y : Float) → T (x ≼ y) → T (not (isNan y))
-above-number nan nan h = absurd (unfold le in h)
-above-number (inf s) nan h = absurd (unfold le in h)
-above-number (fin s m e) nan h = absurd (unfold le in h)
-above-number x (inf t) h = unfold isNan in tt
-above-number x (fin t n d) h = unfold isNan in tt
 
 module _ (s : List Float) (b : RadialBand) (tol : Float) (B : InLimit b) (t : Tolerance tol) where
   -- the best distance settles the piece, in the order of floats
@@ -51,40 +48,41 @@ module _ (s : List Float) (b : RadialBand) (tol : Float) (B : InLimit b) (t : To
       ⊎ (T ((variation b p ≼ tol) || (p .z1 ⊖ p .z0 ≼ tol)) × T (best ≼ boxHit s b p .distance ⊕ variation b p))
   settled best p nb P (inl h) = inl (key→lt binary64 best _ nb (box-number s (boxOf b p)) h)
   settled best p nb P (inr h) =
-      let sum = sum-number binary64 _ (variation b p) (box-number s (boxOf b p)) (variation-bounded b B p P .sure) in
+      let sum = sum-number binary64 _ (variation b p) (box-number s (boxOf b p)) (variation-finite B P .bounded .sure) in
       inr (h .0, key→le binary64 best _ nb sum (h .1))
 
-  covered : (w : Walk) → w .cut ≡ false → Number (w .best .distance) → (z : Float) → Place z → Found s b tol B t z w
+  covered : (w : Walk) → w .cut ≡ false → Number (w .best .distance) → (z : Float) → Finite 21 z → Found s b tol B t z w
       → Covered s b tol w z
   covered w e nb z Z f =
       record {
         piece = f .piece;
         measured = f .seen;
-        from = unfold boxOf in key→le binary64 _ z (bounded-number (f .sound .z0)) (bounded-number Z) (f .from);
-        to = unfold boxOf in key→le binary64 z _ (bounded-number Z) (bounded-number (f .sound .z1)) (f .to);
-        inner = box-inner b B (f .piece) (f .sound) z Z (f .from) (f .to);
-        outer = box-outer b B (f .piece) (f .sound) z Z (f .from) (f .to);
+        from = unfold boxOf in key-le (f .sound .z0) Z (f .from);
+        to = unfold boxOf in key-le Z (f .sound .z1) (f .to);
+        inner = box-inner B (f .sound) Z (f .from) (f .to);
+        outer = box-outer B (f .sound) Z (f .from) (f .to);
         settled = rw e (settled (w .best .distance) (f .piece) nb (f .sound) (f .settles));
       }
 
   -- a place of the whole width, by its key
   record InWidth (z : Float) : Type 0 where
-    place : Place z
+    place : Finite 21 z
     from : K (wholeWidth b .z0) ≤ K z
     to : K z ≤ K (wholeWidth b .z1)
 
   in-width : (z : Float) → T (fits binary64 z) → T (wholeWidth b .z0 ≼ z) → T (z ≼ wholeWidth b .z1) → InWidth z
   in-width z f l u =
-      let P = whole b B .sound in
-      let nz : Number z = make-number z f (above-number (wholeWidth b .z0) z l) in
-      let kl = le→key binary64 (wholeWidth b .z0) z (bounded-number (P .z0)) nz l in
-      let ku = le→key binary64 z (wholeWidth b .z1) nz (bounded-number (P .z1)) u in
-      record { place = between-bounded binary64 1095 _ z _ nz (lit< tt) (P .z0) (P .z1) kl ku; from = kl; to = ku }
+      let P = wholeWidth-sound B in
+      let nz : Number z = held-number binary64 z f (le-right (wholeWidth b .z0) z (T→true _ l)) in
+      let kl = le→key binary64 (wholeWidth b .z0) z (finite-number (P .z0)) nz l in
+      let ku = le→key binary64 z (wholeWidth b .z1) nz (finite-number (P .z1)) u in
+      let w = between-bounded binary64 1095 _ z _ nz (lit< tt) (P .z0 .bounded) (P .z1 .bounded) kl ku in
+      record { place = record { bounded = w }; from = kl; to = ku }
 
-  covers-all : (cap n : ℕ) → 1 ≤ cap → Covers s b tol cap n (walkAll s b tol cap n)
+  covers-all : T (fits binary64 (b .radius)) → (cap n : ℕ) → 1 ≤ cap → Covers s b tol cap n (walkAll s b tol cap n)
   unfolding walkAll walk
-  covers-all zero n c = let e : ⊥ = omega arith in absurd e
-  covers-all (suc cap) n c =
+  covers-all held zero n c = let e : ⊥ = omega arith in absurd e
+  covers-all held (suc cap) n c =
       record {
         some-box = one-box;
         boxes = le-trans (boxes s b tol (suc cap) ps w₀ .1) (le-of-eq (add-zero (suc cap)));
@@ -104,7 +102,7 @@ module _ (s : List Float) (b : RadialBand) (tol : Float) (B : InLimit b) (t : To
       w₀ = start (sampled s b n)
 
       ready : Ready ps
-      ready = (whole b B, tt)
+      ready = (whole B held, tt)
 
       number : Number (sampled s b n .distance)
       number = sampled-number s b n
@@ -118,4 +116,4 @@ module _ (s : List Float) (b : RadialBand) (tol : Float) (B : InLimit b) (t : To
 
 pub covers : (s : List Float) (b : RadialBand) (tol : Float) (cap n : ℕ) → Settings b tol cap
     → Covers s b tol cap n (walkAll s b tol cap n)
-covers s b tol cap n h = covers-all s b tol (h .band) (h .tolerance) cap n (h .some-box)
+covers s b tol cap n h = covers-all s b tol (h .band) (h .tolerance) (h .held) cap n (h .some-box)

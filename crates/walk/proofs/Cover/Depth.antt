@@ -1,28 +1,26 @@
 -- How deep the walk halves: each half is half as wide, to within the rounding of its middle, and only what is wider
--- than the tolerance is halved. So no piece that has 52 halvings behind it is halved. Assumes nothing.
+-- than the tolerance is halved. So no piece that has 52 halvings behind it is halved.
 use Prim.Native.Nat.{ℕ, suc, _+_, _-_, _*_, _^_, _≤_, _<_}
-use mathlib.Core.Path.{sym}
-use native.Mathlib.Nat.{le-trans, le-of-eq, lt-of-lt-of-le, mul-le-mul-left}
+use native.Mathlib.Nat.{le-trans, lt-of-lt-of-le, mul-le-mul-left}
 use native.Mathlib.Omega.{arith}
 use lib.Dec.{T, lit≤, lit<}
 use lib.Pow.{pow-pos}
 use lib.Ieee.{Float, binary64, fits, ofBits}
-use Rattle.arith.specs.F64.{_⊕_, _⊖_, _≺_, _≼_, 𝟘, ½, e-9}
-use Rattle.roots.proofs.Rounding.Key.{key, mid, magnitude, unit, number-of}
+use Rattle.arith.specs.F64.{_⊕_, _⊖_, _≺_, _≼_, ½, e-9}
+use Rattle.roots.proofs.Rounding.Key.{finiteNumber, key, mid, magnitude, unit, number-of}
 use Rattle.roots.proofs.Rounding.KeyOrder.{le→key}
 use Rattle.roots.proofs.Rounding.RoundKey.{roundKey-near}
 use Rattle.roots.proofs.Rounding.Sum.{add-key, sub-key}
-use Rattle.arith.proofs.Laws.Bounded.{bounded-within, between-bounded, add-bound, sub-bound}
+use Rattle.arith.proofs.Laws.Bounded.{bounded-within}
 use Rattle.arith.proofs.Laws.Middle.{half, half-is}
 use Rattle.arith.proofs.Laws.Depth.{Level, level-start, level-wide, level-down, Scale, split}
-use Rattle.walk.specs.Band.{mean}
+use Rattle.bands.specs.Band.{mean}
 use Rattle.walk.specs.Pieces.{piece, wholeWidth}
-use Rattle.walk.specs.declared.shapes.RadialBand.{RadialBand}
+use Rattle.bands.specs.declared.shapes.RadialBand.{RadialBand}
 use Rattle.walk.specs.declared.shapes.Piece.{Piece}
-use Rattle.arith.proofs.Laws.Extended.{sub-le-add}
-use Rattle.walk.proofs.Cover.Numbers.{K, M, Finite, Number, bounded-number, zero-number, zero-key}
-use Rattle.walk.proofs.Cover.Sizes.{Place, InLimit}
-use Rattle.walk.proofs.Cover.Boxes.{Sound}
+use Rattle.arith.proofs.Laws.Sizes.{Finite, K, M, Number, held-finite}
+use Rattle.bands.proofs.Limit.{InLimit}
+use Rattle.walk.proofs.Demand.Pieces.{Sound, halve-sound, wholeWidth-sound}
 
 -- the width at the start, 2 ^ 21 with room for the rounding of its ends, and the rounding of a middle: both counted in
 -- 2 ^ -1074
@@ -41,27 +39,27 @@ pub shallower : (j : ℕ) (p : Piece) → AtDepth (suc j) p → AtDepth j p
 shallower j p h = record { sound = h .sound; narrow = level-down W E j (K (p .z1) - K (p .z0)) (h .narrow) }
 
 -- ---- the whole width
-module _ (b : RadialBand) (B : InLimit b) where
+module _ {b : RadialBand} (B : InLimit b) (held : T (fits binary64 (b .radius))) where
   abbrev c : Float
   c = b .zc
 
   abbrev r : Float
   r = b .radius
 
-  not-negative : M ≤ K r
-  not-negative =
-      le-trans (le-of-eq (sym zero-key)) (le→key binary64 𝟘 r zero-number (bounded-number (B .radius)) (B .solid))
+  R : Finite 20 r
+  R = held-finite (B .radius) held
 
   -- omega takes no number of more than 38 digits: the lemmas have variables for them
   wide : K (c ⊕ r) - K (c ⊖ r) ≤ W
   wide =
-      let f = reach (K c) (K r) M (2 ^ 1094) (2 ^ 1096) (B .zc .lower) (B .zc .upper) (B .radius .lower)
-      (B .radius .upper) (lit< tt) in
+      let C = B .zc .bounded in
+      let f = reach (K c) (K r) M (2 ^ 1094) (2 ^ 1096) (C .lower) (C .upper) (R .bounded .lower) (R .bounded .upper)
+      (lit< tt) in
       let few : 2 ^ 1096 ≤ M = unfold mid in lit≤ tt in
       let u = roundKey-near binary64 (K c + K r) (M + M) 1 1043 (pow-pos 0) (f .0) (f .1) few in
       let v = roundKey-near binary64 (K c) (K r) 1 1043 (pow-pos 0) (f .2) (f .3) few in
-      rw (sub-key binary64 c r (B .zc .sure) (B .radius .sure), add-key binary64 c r (B .zc .sure) (B .radius .sure))
-      (near (K c) (K r) M _ _ (2 ^ 1094) (2 ^ 1043) W (B .radius .upper) (u .0) (v .1) (lit≤ tt))
+      rw (sub-key binary64 c r (C .sure) (R .bounded .sure), add-key binary64 c r (C .sure) (R .bounded .sure))
+      (near (K c) (K r) M _ _ (2 ^ 1094) (2 ^ 1043) W (R .bounded .upper) (u .0) (v .1) (lit≤ tt))
     where
       reach : (c r m L P : ℕ) → m ≤ c + L → c ≤ m + L → m ≤ r + L → r ≤ m + L → 2 * L < P
           → (c + r < m + m + P * 1) × (m + m < c + r + P * 1) × (c < r + P * 1) × (r < c + P * 1)
@@ -74,12 +72,7 @@ module _ (b : RadialBand) (B : InLimit b) where
   pub whole : AtDepth 0 (wholeWidth b)
   whole =
       record {
-        sound =
-            record {
-              z0 = sub-bound (B .zc) (B .radius) tt;
-              z1 = add-bound (B .zc) (B .radius) tt;
-              order = sub-le-add binary64 c r (B .zc .sure) (B .radius .sure) not-negative;
-            };
+        sound = wholeWidth-sound B;
         narrow = level-wide (K (c ⊕ r) - K (c ⊖ r)) W E 0 _ wide (level-start _ E);
       }
 
@@ -87,7 +80,7 @@ module _ (b : RadialBand) (B : InLimit b) where
 
 -- a tolerance: finite, from 1e-9 on
 pub record Tolerance (tol : Float) : Type 0 where
-  pub finite : Finite tol
+  pub finite : T (finiteNumber binary64 tol)
   pub least : T (e-9 ≼ tol)
 
 pub tolerance-number : (tol : Float) → Tolerance tol → Number tol
@@ -131,15 +124,14 @@ pub record Halves (j : ℕ) (p : Piece) : Type 0 where
 
 pub halve : (tol : Float) → Tolerance tol → (j : ℕ) (p : Piece) → AtDepth j p → T (tol ≺ p .z1 ⊖ p .z0) → Halves j p
 halve tol t j p P w =
-    let a = P .sound .z0 in
-    let b = P .sound .z1 in
+    let a = P .sound .z0 .bounded in
+    let b = P .sound .z1 .bounded in
     let S = split binary64 (p .z0) (p .z1) tol ½ (2 ^ 1095) 1044 W 52 j (scale tol t) (a .sure) (b .sure)
     (bounded-within binary64 1095 (p .z0) a) (bounded-within binary64 1095 (p .z1) b) (P .sound .order)
     (P .narrow) w in
-    let m : Place (mean (p .z0) (p .z1)) = between-bounded binary64 1095 (p .z0) (mean (p .z0) (p .z1)) (p .z1)
-    (number-of binary64 _ (S .between .sure)) (lit< tt) a b (S .between .low-end) (S .between .high-end) in
+    let H = halve-sound (P .sound) in
     record {
       shallow = S .shallow;
-      left = record { sound = record { z0 = a; z1 = m; order = S .between .low-end }; narrow = S .left };
-      right = record { sound = record { z0 = m; z1 = b; order = S .between .high-end }; narrow = S .right };
+      left = record { sound = H .left; narrow = S .left };
+      right = record { sound = H .right; narrow = S .right };
     }

@@ -1,5 +1,5 @@
 -- Every place of a piece that waits ends in a measured piece that is settled, unless the walk is cut: what is measured
--- stays so, a half holds each place of what is halved, and the best distance does not rise. Assumes nothing.
+-- stays so, a half holds each place of what is halved, and the best distance does not rise.
 use Prim.Native.Nat.{ℕ, zero, suc, _≤_}
 use mathlib.Core.Path.{_≡_, refl}
 use mathlib.Core.Logic.{inl, inr, _⊎_}
@@ -10,14 +10,14 @@ use lib.ListN.{length}
 use lib.Ieee.{Float}
 use Rattle.arith.specs.F64.{_⊖_}
 use Rattle.roots.proofs.Numbers.{decide}
-use Rattle.walk.specs.Band.{mean}
+use Rattle.bands.specs.Band.{mean}
 use Rattle.walk.specs.Pieces.{variation}
 use Rattle.walk.specs.Walk.{Walk, halved, marked, boxHit, waiting, measured, walk}
-use Rattle.walk.specs.declared.shapes.RadialBand.{RadialBand}
+use Rattle.bands.specs.declared.shapes.RadialBand.{RadialBand}
 use Rattle.walk.specs.declared.shapes.Piece.{Piece}
-use Rattle.walk.proofs.Cover.Numbers.{K, Number}
-use Rattle.walk.proofs.Cover.Sizes.{InLimit}
-use Rattle.walk.proofs.Cover.Boxes.{Sound}
+use Rattle.arith.proofs.Laws.Sizes.{K, Number}
+use Rattle.bands.proofs.Limit.{InLimit}
+use Rattle.walk.proofs.Demand.Pieces.{Sound}
 use Rattle.walk.proofs.Cover.Depth.{Tolerance}
 use Rattle.walk.proofs.Cover.Turns.{Settles, settles-down, Ready, TurnOf, turn-of, next}
 

@@ -1,26 +1,27 @@
 -- The least box distance that the walk has seen is that of one of the measured boxes, and no greater than that of any.
--- Assumes nothing.
 use Prim.Native.Nat.{ℕ, zero, suc, _≤_, zero-le, suc-le-suc, min as minℕ}
 use mathlib.Core.Path.{_≡_, refl, sym, ap, _∙_, subst}
 use mathlib.Core.Logic.{inl, inr, _⊎_}
-use mathlib.Core.Bool.{Bool, true, false, cond}
+use mathlib.Core.Bool.{Bool, true, cond}
 use mathlib.Core.List.{List, [], _∷_, List·Memᴰ, List·Memᴰ·head, List·Memᴰ·tail, List·Memᴰ·cases-cons}
 use native.Mathlib.Omega.{arith}
 use lib.ListN.{length}
 use lib.Dec.{T}
-use lib.Ieee.{Float, nan, inf, fin, binary64, le}
+use lib.Ieee.{Float, binary64}
 use Rattle.arith.specs.F64.{_≼_, ∞}
 use Rattle.arith.specs.Num.{min}
 use Rattle.roots.proofs.Rounding.KeyOrder.{key→le}
-use Rattle.arith.proofs.Laws.Order.{min-key}
+use Rattle.arith.proofs.Laws.Order.{min-infinity, min-key}
 use Rattle.profile.specs.declared.shapes.CollisionHit.{CollisionHit}
 use Rattle.walk.specs.Pieces.{boxOf}
 use Rattle.walk.specs.Walk.{Walk, start, boxHit, waiting, measured, walk, reported}
 use Rattle.walk.specs.Cover.{Least}
-use Rattle.walk.specs.declared.shapes.RadialBand.{RadialBand}
+use Rattle.bands.specs.declared.shapes.RadialBand.{RadialBand}
 use Rattle.walk.specs.declared.shapes.Piece.{Piece}
-use Rattle.walk.proofs.Cover.Numbers.{K, Number, cond-number}
-use Rattle.walk.proofs.Cover.Distances.{infinite-number, box-number}
+use Rattle.arith.proofs.Laws.Sizes.{K, Number, min-keeps}
+use Rattle.profile.proofs.Numbers.{infinite}
+use Rattle.profile.proofs.Steps.{pick}
+use Rattle.section.proofs.Numbers.{box-number}
 
 module _ (s : List Float) (b : RadialBand) where
   leastOf : List Piece → Float
@@ -29,10 +30,8 @@ module _ (s : List Float) (b : RadialBand) where
 
   least-number : (l : List Piece) → Number (leastOf l)
   unfolding leastOf
-  least-number [] = infinite-number
-  least-number (p ∷ l) =
-      let d = boxHit s b p .distance in
-      cond-number (leastOf l ≼ d) (leastOf l) d (least-number l) (box-number s (boxOf b p))
+  least-number [] = infinite
+  least-number (p ∷ l) = min-keeps Number (least-number l) (box-number s (boxOf b p))
 
   -- no greater than any
   least-low : (l : List Piece) (p : Piece) → List·Memᴰ p l → K (leastOf l) ≤ K (boxHit s b p .distance)
@@ -49,31 +48,20 @@ module _ (s : List Float) (b : RadialBand) where
       go (inr r) h = rw k (omega (arith, h r))
 
   -- one of them
-  record One (l : List Piece) : Type 0 where
+  record One (x : Float) (l : List Piece) : Type 0 where
     piece : Piece
     seen : List·Memᴰ piece l
-    equal : leastOf l ≡ boxHit s b piece .distance
+    equal : x ≡ boxHit s b piece .distance
 
-  min-∞ : (x : Float) → min ∞ x ≡ x
-  unfolding le
-  min-∞ nan = refl
-  min-∞ (inf false) = refl
-  min-∞ (inf true) = refl
-  min-∞ (fin t m e) = refl
-
-  one : (l : List Piece) → 1 ≤ length l → One l
+  one : (l : List Piece) → 1 ≤ length l → One (leastOf l) l
   unfolding leastOf
   one [] h = let c : ⊥ = omega arith in absurd c
-  one (p ∷ []) h = record { piece = p; seen = List·Memᴰ·head refl; equal = min-∞ (boxHit s b p .distance) }
-  one (p ∷ (q ∷ l)) h = go (leastOf (q ∷ l) ≼ boxHit s b p .distance) refl (one (q ∷ l) (suc-le-suc zero-le))
-    where
-      taken : (t : Bool) → (leastOf (q ∷ l) ≼ boxHit s b p .distance) ≡ t
-          → leastOf (p ∷ (q ∷ l)) ≡ cond t (leastOf (q ∷ l)) (boxHit s b p .distance)
-      taken t e = ap (λ (t : Bool). cond t (leastOf (q ∷ l)) (boxHit s b p .distance)) e
-
-      go : (t : Bool) → (leastOf (q ∷ l) ≼ boxHit s b p .distance) ≡ t → One (q ∷ l) → One (p ∷ (q ∷ l))
-      go true e o = record { piece = o .piece; seen = List·Memᴰ·tail (o .seen); equal = taken true e ∙ o .equal }
-      go false e o = record { piece = p; seen = List·Memᴰ·head refl; equal = taken false e }
+  one (p ∷ []) h = record { piece = p; seen = List·Memᴰ·head refl; equal = min-infinity (boxHit s b p .distance) }
+  one (p ∷ (q ∷ l)) h =
+      let o = one (q ∷ l) (suc-le-suc zero-le) in
+      pick (λ (x : Float). One x (p ∷ (q ∷ l))) (leastOf (q ∷ l) ≼ boxHit s b p .distance)
+      (λ h. record { piece = o .piece; seen = List·Memᴰ·tail (o .seen); equal = o .equal })
+      (λ h. record { piece = p; seen = List·Memᴰ·head refl; equal = refl })
 
   module _ (tol : Float) where
     -- what the walk keeps is the least of what it has measured
@@ -106,5 +94,5 @@ module _ (s : List Float) (b : RadialBand) where
         is : reported w ≡ leastOf (w .seen)
         is = ap (λ (c : Bool). cond c (w .least) (w .best .distance)) e ∙ keeps-least n ps (start best) refl
 
-        o : One (w .seen)
+        o : One (leastOf (w .seen)) (w .seen)
         o = one (w .seen) l

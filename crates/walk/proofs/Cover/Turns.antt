@@ -1,44 +1,33 @@
 -- One turn of the walk: the best distance does not rise, a piece that is not halved is settled, and every piece that
--- waits is as deep as there are pieces under it. Assumes nothing.
+-- waits is as deep as there are pieces under it.
 use Prim.Native.Nat.{ℕ, _≤_, _<_, suc-le-suc}
 use mathlib.Core.Path.{_≡_, refl}
 use mathlib.Core.Logic.{inl, inr, _⊎_}
 use mathlib.Core.Bool.{Bool, true, false, not, _&&_, _||_, cond, true≢false, false≢true}
 use mathlib.Core.List.{List, [], _∷_}
-use native.Mathlib.Nat.{le-refl, le-trans, le-of-lt, lt-of-le-of-lt}
+use native.Mathlib.Nat.{le-refl, le-trans, lt-of-le-of-lt}
 use lib.ListN.{length}
 use lib.Dec.{T}
 use lib.Ieee.{Float, binary64}
 use Rattle.arith.specs.F64.{_⊕_, _⊖_, _≺_, _≼_, e-12}
-use Rattle.roots.proofs.Rounding.Key.{number-of}
 use Rattle.roots.proofs.Rounding.KeyOrder.{key→le, lt→key, nlt→key}
-use Rattle.roots.proofs.Rounding.Sum.{sub-number}
 use Rattle.profile.specs.Vertices.{hit, nearer}
 use Rattle.profile.specs.declared.shapes.CollisionHit.{CollisionHit}
 use Rattle.walk.specs.Pieces.{boxOf, variation}
 use Rattle.walk.specs.Walk.{dropped, better, halved, boxHit, waiting}
-use Rattle.walk.specs.declared.shapes.RadialBand.{RadialBand}
+use Rattle.bands.specs.declared.shapes.RadialBand.{RadialBand}
 use Rattle.walk.specs.declared.shapes.Piece.{Piece}
 use Rattle.arith.proofs.Laws.Extended.{sum-number, sum-ge}
-use Rattle.walk.proofs.Cover.Numbers.{K, Number, Finite, number-fits, e-12-finite, e-12-positive}
-use Rattle.walk.proofs.Cover.Distances.{nearer-number, box-number}
-use Rattle.walk.proofs.Cover.Sizes.{InLimit}
-use Rattle.walk.proofs.Cover.Boxes.{variation-bounded}
+use Rattle.arith.proofs.Laws.OrderHeld.{number-held}
+use Rattle.arith.proofs.Laws.Sizes.{Finite, K, Number, e-12-finite, e-12-positive, finite-number, sub-finite}
+use Rattle.profile.proofs.Numbers.{NumberHit, nearer-low, nearer-number}
+use Rattle.profile.proofs.Steps.{pick}
+use Rattle.section.proofs.Numbers.{box-number}
+use Rattle.bands.proofs.Limit.{InLimit}
+use Rattle.walk.proofs.Demand.Pieces.{variation-finite}
 use Rattle.walk.proofs.Cover.Depth.{AtDepth, shallower, Tolerance, tolerance-number, halve}
 
 -- ---- a piece against the best so far
-
--- the nearer of two is no farther than each
-nearer-low : (a b : CollisionHit) → Number (a .distance) → Number (b .distance)
-    → (K (nearer a b .distance) ≤ K (a .distance)) × (K (nearer a b .distance) ≤ K (b .distance))
-nearer-low a b p q =
-    go (b .distance ≺ a .distance) (lt→key binary64 (b .distance) (a .distance) q p)
-    (nlt→key binary64 (b .distance) (a .distance) q p)
-  where
-    go : (t : Bool) → (T t → K (b .distance) < K (a .distance)) → (T (not t) → K (a .distance) ≤ K (b .distance))
-        → (K ((cond t b a) .distance) ≤ K (a .distance)) × (K ((cond t b a) .distance) ≤ K (b .distance))
-    go true h k = (le-of-lt (h tt), le-refl (K (b .distance)))
-    go false h k = (le-refl (K (a .distance)), k tt)
 
 -- What is reported, of key k, is below the box distance m; or the variation v or the width e is at most the tolerance,
 -- and what is reported at most m + v.
@@ -57,41 +46,35 @@ pub record Turn (tol : Float) (m : CollisionHit) (v : Float) (best : CollisionHi
       → Settles tol (m .distance) v (p .z1 ⊖ p .z0) (K (better m v best .distance))
 
 turn : (tol : Float) (m : CollisionHit) (v : Float) (best : CollisionHit) (p : Piece) → Number tol
-    → Number (m .distance) → Finite v → Number (best .distance) → Number (p .z1 ⊖ p .z0) → Turn tol m v best p
+    → Number (m .distance) → Finite 23 v → Number (best .distance) → Number (p .z1 ⊖ p .z0) → Turn tol m v best p
 turn tol m v best p nt nm fv nb ne =
     record {
-      number = number (dropped m best);
-      lower = lower (dropped m best);
+      number = pick NumberHit (dropped m best) (λ h. nb)
+          (λ h. nearer-number best new nb (number-held binary64 (m .distance ⊕ v) nn));
+      lower = pick (λ (h : CollisionHit). K (h .distance) ≤ K (best .distance)) (dropped m best) (λ h. le-refl _) (λ h. low .0);
       wide = last-so (dropped m best) (tol ≺ v) (tol ≺ p .z1 ⊖ p .z0);
       settled = settled (dropped m best) (tol ≺ v) (tol ≺ p .z1 ⊖ p .z0) far
-          (not-above v (number-of binary64 v fv)) (not-above (p .z1 ⊖ p .z0) ne);
+          (not-above v (finite-number fv)) (not-above (p .z1 ⊖ p .z0) ne);
     }
   where
     new : CollisionHit
     new = hit (m .distance ⊕ v) (m .witness)
 
     nn : Number (m .distance ⊕ v)
-    nn = sum-number binary64 (m .distance) v nm fv
+    nn = sum-number binary64 (m .distance) v nm (fv .bounded .sure)
 
     low : (K (nearer best new .distance) ≤ K (best .distance)) × (K (nearer best new .distance) ≤ K (m .distance ⊕ v))
     low = nearer-low best new nb nn
 
     far : T (dropped m best) → K (best .distance) < K (m .distance)
     far t =
-        let n = sum-number binary64 (best .distance) e-12 nb e-12-finite in
-        lt-of-le-of-lt (sum-ge binary64 (best .distance) e-12 nb e-12-finite e-12-positive)
+        let c = e-12-finite .bounded .sure in
+        let n = sum-number binary64 (best .distance) e-12 nb c in
+        lt-of-le-of-lt (sum-ge binary64 (best .distance) e-12 nb c e-12-positive)
         (lt→key binary64 (best .distance ⊕ e-12) (m .distance) n nm t)
 
     not-above : (x : Float) → Number x → T (not (tol ≺ x)) → T (x ≼ tol)
     not-above x n h = key→le binary64 x tol n nt (nlt→key binary64 tol x nt n h)
-
-    number : (t : Bool) → Number ((cond t best (nearer best new)) .distance)
-    number true = nb
-    number false = nearer-number best new nb (number-fits (m .distance ⊕ v) nn)
-
-    lower : (t : Bool) → K ((cond t best (nearer best new)) .distance) ≤ K (best .distance)
-    lower true = le-refl (K (best .distance))
-    lower false = low .0
 
     or-so : (c d : Bool) → T c ⊎ T d → T (c || d)
     or-so true d h = tt
@@ -126,8 +109,7 @@ module _ (s : List Float) (b : RadialBand) (tol : Float) (B : InLimit b) (t : To
   pub turn-of : (j : ℕ) (p : Piece) (best : CollisionHit) → AtDepth j p → Number (best .distance) → TurnOf p best
   turn-of j p best P nb =
       turn tol (boxHit s b p) (variation b p) best p (tolerance-number tol t) (box-number s (boxOf b p))
-      (variation-bounded b B p (P .sound) .sure) nb
-      (sub-number binary64 (p .z1) (p .z0) (P .sound .z1 .sure) (P .sound .z0 .sure))
+      (variation-finite B (P .sound)) nb (finite-number (sub-finite (P .sound .z1) (P .sound .z0) tt))
 
   pub record Next (p : Piece) (ps : List Piece) (best : CollisionHit) : Type 0 where
     pub ready : Ready (waiting s b tol p ps best)

@@ -1,29 +1,35 @@
 -- The samples of a band are at most 2 ^ 23. So the starting distance is at most 2 ^ 27, or +infinity beside a section
--- on the axis only.
+-- on the axis only; it is never a NaN, whatever the section.
 use Prim.Native.Nat.{ℕ, zero, suc, _≤_}
 use mathlib.Core.List.{List}
 use mathlib.Core.Path.{refl}
 use native.Mathlib.Nat.{le-of-suc-le-suc}
-use lib.Ieee.{Float}
+use lib.Ieee.{Float, binary64}
 use Rattle.arith.specs.F64.{𝟘, ∞}
-use Rattle.section.specs.Points.{pointDistance}
+use Rattle.arith.proofs.Laws.Intervals.{Intervals, interval-finite}
+use Rattle.arith.proofs.Laws.OrderHeld.{number-held}
+use Rattle.arith.proofs.Laws.Sizes.{Finite, add-finite, finite-raise, half-finite, mul-finite, sub-finite, zero-finite}
+use Rattle.points.specs.Points.{pointDistance}
 use Rattle.profile.specs.Vertices.{hit, nearer, nearestOf, vertex}
-use Rattle.section.proofs.Demand.Bounds.{Finite, add-finite, finite-raise, finite-upTo, half-finite, mul-finite}
-use Rattle.section.proofs.Demand.Bounds.{sub-finite, zero-finite}
+use Rattle.profile.specs.declared.shapes.CollisionHit.{CollisionHit}
+use Rattle.profile.proofs.Numbers.{NumberHit, infinite, nearest-number}
+use Rattle.profile.proofs.Steps.{upto-keeps}
+use Rattle.section.proofs.Demand.Bounds.{finite-upTo}
 use Rattle.section.proofs.Demand.Hits.{BestUpTo, VertexUpTo, VerticesUpTo, nearer-best, none-yet}
 use Rattle.section.proofs.Demand.Points.{point-best}
-use Rattle.section.proofs.Demand.Steps.{upto-keeps}
-use Rattle.walk.specs.Band.{halfWidth, spanAt}
+use Rattle.section.proofs.Numbers.{point-number}
+use Rattle.bands.specs.Band.{halfWidth, spanAt}
+use Rattle.bands.specs.declared.shapes.RadialBand.{RadialBand}
+use Rattle.bands.proofs.HalfWidth.{halfWidth-finite}
+use Rattle.bands.proofs.Limit.{InLimit}
+use Rattle.bands.proofs.Spans.{SpanFinite, spanAt-finite}
 use Rattle.walk.specs.Walk.{sampleAt, sampleZ, sampled}
-use Rattle.walk.specs.declared.shapes.RadialBand.{RadialBand}
-use Rattle.walk.proofs.Demand.Bands.{BandUpTo, SpanFinite, halfWidth-finite, spanAt-finite}
-use Rattle.walk.proofs.Demand.Intervals.{Intervals, interval-finite}
-use Rattle.walk.proofs.Demand.Pieces.{wholeWidth-finite}
+use Rattle.walk.proofs.Demand.Pieces.{wholeWidth-sound}
 
-module _ {b : RadialBand} (B : BandUpTo b) where
+module _ {b : RadialBand} (B : InLimit b) where
   sampleZ-finite : {n : ℕ} → Intervals n → (i : ℕ) → i ≤ n → Finite 23 (sampleZ b n i)
   sampleZ-finite N i h =
-      let w = wholeWidth-finite B in
+      let w = wholeWidth-sound B in
       add-finite (w .z0) (mul-finite (sub-finite (w .z1) (w .z0) tt) (interval-finite N i h) tt) tt
 
   sampleAt-upTo : {z : Float} → Finite 23 z → (j : ℕ) → VertexUpTo 23 (sampleAt b z j)
@@ -47,3 +53,13 @@ module _ {b : RadialBand} (B : BandUpTo b) where
       (λ i l best A. upto-keeps (BestUpTo 27)
       (λ j best. nearer best (pointDistance s (sampleAt b (sampleZ b n i) j))) best 3 A
       (λ j m c C. nearer-best C (point-best S (sampleAt-upTo (sampleZ-finite N i (le-of-suc-le-suc l)) j))))
+
+pub sampled-number : (s : List Float) (b : RadialBand) (n : ℕ) → NumberHit (sampled s b n)
+unfolding sampled
+sampled-number s b n =
+    upto-keeps NumberHit (λ i best. nearestOf (at i) best 3) (hit ∞ _) (suc n) infinite
+    (λ i l x q. nearest-number (at i) x 3 q
+    (λ j. number-held binary64 (at i j .distance) (point-number s (sampleAt b (sampleZ b n i) j))))
+  where
+    at : ℕ → ℕ → CollisionHit
+    at i j = pointDistance s (sampleAt b (sampleZ b n i) j)

@@ -4,41 +4,27 @@ use Prim.Native.Nat.{ℕ, zero, suc, _<_}
 use mathlib.Core.List.{List, [], _∷_}
 use mathlib.Core.Path.{refl}
 use native.Mathlib.Omega.{arith}
-use lib.Dec.{T, leb}
-use lib.Ieee.{Float, eq, le, lt, neg, ofBits}
+use lib.Dec.{T}
+use lib.Ieee.{Float, binary64}
 use Rattle.arith.specs.F64.{_⊕_, _≺_, e-12}
-use Rattle.arith.specs.Num.{isFinite}
+use Rattle.arith.proofs.Laws.Extended.{infinity-plus}
+use Rattle.arith.proofs.Laws.Intervals.{Intervals}
 use Rattle.arith.proofs.Laws.OrderHeld.{none-above-inf}
-use Rattle.section.specs.Demand.{UpTo}
+use Rattle.arith.proofs.Laws.Sizes.{add-finite, e-12-finite, Finite, finite-ends, finite-raise}
+use Rattle.profile.proofs.Steps.{pick}
 use Rattle.profile.specs.declared.shapes.CollisionHit.{CollisionHit}
-use Rattle.section.proofs.Demand.Bounds.{Finite, add-finite, finite-raise}
-use Rattle.section.proofs.Demand.Bounds.{infinity-plus}
 use Rattle.section.proofs.Demand.Boxes.{box-upTo}
 use Rattle.section.proofs.Demand.Hits.{BestUpTo, HitUpTo, LeastUpTo, VerticesUpTo, found, min-new, nearer-new}
-use Rattle.section.proofs.Demand.Hits.{no-distance, none-yet, some-distance}
-use Rattle.section.proofs.Demand.Lists.{All, cons, nil}
-use Rattle.section.proofs.Demand.Steps.{pick}
-use Rattle.walk.specs.Pieces.{variation}
-use Rattle.walk.specs.Walk.{Walk, better, boxHit, dropped, halved, measured, start, waiting, walk}
+use Rattle.section.proofs.Demand.Hits.{best-raise, no-distance, none-yet, some-distance}
+use Rattle.profile.proofs.Each.{All, cons, nil}
+use Rattle.walk.specs.Walk.{Walk, better, dropped, measured, start, walk}
 use Rattle.walk.specs.Walk.{walkAll, walked}
 use Rattle.walk.specs.declared.shapes.Piece.{Piece}
-use Rattle.walk.specs.declared.shapes.RadialBand.{RadialBand}
-use Rattle.walk.proofs.Demand.Bands.{BandUpTo}
-use Rattle.walk.proofs.Demand.Intervals.{Intervals}
-use Rattle.walk.proofs.Demand.Pieces.{PieceFinite, boxOf-upTo, halves-finite, variation-finite}
-use Rattle.walk.proofs.Demand.Pieces.{wholeWidth-finite}
+use Rattle.bands.specs.declared.shapes.RadialBand.{RadialBand}
+use Rattle.bands.proofs.Limit.{InLimit}
+use Rattle.walk.proofs.Demand.Pieces.{Sound, boxOf-upTo, variation-finite, waiting-sound}
+use Rattle.walk.proofs.Demand.Pieces.{wholeWidth-sound}
 use Rattle.walk.proofs.Demand.Samples.{sampled-best}
-
-pub hit-raise : {i j : ℕ} {h : CollisionHit} → HitUpTo i h → T (leb i j) → HitUpTo j h
-hit-raise H t = record { distance = finite-raise (H .distance) t; witness = H .witness }
-
-best-raise : {i j : ℕ} {h : CollisionHit} → BestUpTo i h → T (leb i j) → BestUpTo j h
-best-raise (found H) t = found (hit-raise H t)
-best-raise (none-yet e w) t = none-yet e w
-
-e-12-upTo : UpTo 0 e-12
-unfolding isFinite le lt eq neg ofBits
-e-12-upTo = record { ends = tt; least = tt; most = tt }
 
 -- nothing is dropped as long as best is +infinity
 better-upTo : {m best : CollisionHit} {v : Float} → HitUpTo 27 m → Finite 23 v → BestUpTo 28 best
@@ -50,45 +36,40 @@ better-upTo {m} {best} {v} H D A =
     kept : BestUpTo 28 best → T (best .distance ⊕ e-12 ≺ m .distance) → HitUpTo 28 best
     kept (found B) h = B
     kept (none-yet e w) h =
-        absurd (none-above-inf (m .distance) (rw (infinity-plus e-12-upTo) at (rw e at h)))
+        absurd (none-above-inf (m .distance) (rw (infinity-plus e-12 (finite-ends e-12-finite) binary64) at (rw e at h)))
 
 -- ---- a walk that has measured a box
 pub record WalkUpTo (w : Walk) : Type 0 where
   pub best : HitUpTo 28 (w .best)
   pub least : Finite 27 (w .least)
 
-module _ {s : List Float} (S : VerticesUpTo 23 s) {b : RadialBand} (B : BandUpTo b) (tol : Float) where
-  measured-upTo : {p : Piece} → PieceFinite p → (ps : List Piece) (w : Walk) → BestUpTo 28 (w .best)
+module _ {s : List Float} (S : VerticesUpTo 23 s) {b : RadialBand} (B : InLimit b) (tol : Float) where
+  measured-upTo : {p : Piece} → Sound p → (ps : List Piece) (w : Walk) → BestUpTo 28 (w .best)
       → LeastUpTo 27 (w .least) → WalkUpTo (measured s b tol p ps w)
   measured-upTo P ps w A L =
       let m = box-upTo S (boxOf-upTo B P) in
       record { best = better-upTo m (variation-finite B P) A; least = min-new L (m .distance) }
 
-  waiting-finite : {p : Piece} {ps : List Piece} → PieceFinite p → All PieceFinite ps → (best : CollisionHit)
-      → All PieceFinite (waiting s b tol p ps best)
-  waiting-finite {p} P A best =
-      pick (All PieceFinite) (halved tol (boxHit s b p) (variation b p) best p) (λ h. halves-finite P A) (λ h. A)
-
-  walk-upTo : (n : ℕ) (ps : List Piece) (w : Walk) → All PieceFinite ps → WalkUpTo w → WalkUpTo (walk s b tol n ps w)
+  walk-upTo : (n : ℕ) (ps : List Piece) (w : Walk) → All Sound ps → WalkUpTo w → WalkUpTo (walk s b tol n ps w)
   unfolding walk
   walk-upTo zero [] w A W = W
   walk-upTo zero (p ∷ ps) w A W = record { best = W .best; least = W .least }
   walk-upTo (suc n) [] w A W = W
   walk-upTo (suc n) (p ∷ ps) w (cons P A) W =
-      walk-upTo n _ _ (waiting-finite P A (w .best))
+      walk-upTo n _ _ (waiting-sound s b tol P A (w .best))
       (measured-upTo P ps w (found (W .best)) (some-distance (W .least)))
 
   -- the first piece is measured, whatever the start
-  starts-upTo : (cap : ℕ) {p : Piece} → PieceFinite p → {best : CollisionHit} → 0 < cap → BestUpTo 28 best
+  starts-upTo : (cap : ℕ) {p : Piece} → Sound p → {best : CollisionHit} → 0 < cap → BestUpTo 28 best
       → WalkUpTo (walk s b tol cap (p ∷ []) (start best))
   unfolding walk
   starts-upTo zero P l A = let c : ⊥ = omega arith in absurd c
   starts-upTo (suc cap) P {best} l A =
-      walk-upTo cap _ _ (waiting-finite P nil best) (measured-upTo P [] (start best) A (no-distance refl))
+      walk-upTo cap _ _ (waiting-sound s b tol P nil best) (measured-upTo P [] (start best) A (no-distance refl))
 
   pub walkAll-upTo : (cap : ℕ) → 0 < cap → {n : ℕ} → Intervals n → WalkUpTo (walkAll s b tol cap n)
   unfolding walkAll
-  walkAll-upTo cap l N = starts-upTo cap (wholeWidth-finite B) l (best-raise (sampled-best B S N) tt)
+  walkAll-upTo cap l N = starts-upTo cap (wholeWidth-sound B) l (best-raise (sampled-best B S N) tt)
 
 -- what is reported, cut or not
 pub walked-upTo : {w : Walk} → WalkUpTo w → HitUpTo 28 (walked w .hit)

@@ -1,4 +1,4 @@
--- `capi::distances::give` meets its contract, by the answer's case. Assumes nothing.
+-- `capi::distances::give` meets its contract, by the answer's case.
 use borrow.Author.Needs.{needs}
 use Rattle.capi.proofs.distances.give.Statement.{statement}
 use Rattle.capi.proofs.distances.give.Tie as tie
@@ -12,12 +12,12 @@ enum-known-answer-2 c = search needs
 returns : tie.Need-returns
 returns c =
     let told = c .before .before .answer .given .1 in
-    record { returned = rw told; distance-place = rw told; z-place = rw told; radius-place = rw told }
+    record { returned = rw told; lent = rw told }
 
 returns-2 : tie.Need-returns-2
 returns-2 c =
     let told = c .before .answer2 .given .1 in
-    record { returned = rw told; distance-place = rw told; z-place = rw told; radius-place = rw told }
+    record { returned = rw told; lent = rw told }
 
 pub give-spec : {M : Type 1} → statement M
 give-spec = tie.close (tie.spec enum-known-answer enum-known-answer-2 returns returns-2)

@@ -1,6 +1,6 @@
--- `capi::distances::jorghipa_convex` meets its contract: the answer's case in the lent places. Assumes nothing.
+-- `capi::distances::jorghipa_convex` meets its contract: the answer's case in the lent places.
 use borrow.Author.Needs.{needs}
-use Rattle.capi.proofs.Same.{gives}
+use Rattle.capi.proofs.Same.{measures}
 use Rattle.capi.proofs.distances.jorghipa_convex.Statement.{statement}
 use Rattle.capi.proofs.distances.jorghipa_convex.Tie as tie
 
@@ -11,7 +11,7 @@ give-requires : tie.Need-give-requires
 give-requires c κs = search needs
 
 returns : tie.Need-returns
-returns c = gives (c .before .before .before .before .convex-polygon-distance .ensures .0) (c .give .ensures)
+returns c = measures (c .before .before .before .before .convex-polygon-distance .ensures) (c .give .ensures)
 
 pub jorghipa-convex-spec : {M : Type 1} → statement M
 jorghipa-convex-spec = tie.close (tie.spec convex-polygon-distance-requires give-requires returns)

@@ -1,6 +1,6 @@
--- `capi::distances::jorghipa_sphere` meets its contract: the answer's case in the lent places. Assumes nothing.
+-- `capi::distances::jorghipa_sphere` meets its contract: the answer's case in the lent places.
 use borrow.Author.Needs.{needs}
-use Rattle.capi.proofs.Same.{gives}
+use Rattle.capi.proofs.Same.{measures}
 use Rattle.capi.proofs.distances.jorghipa_sphere.Statement.{statement}
 use Rattle.capi.proofs.distances.jorghipa_sphere.Tie as tie
 
@@ -11,7 +11,7 @@ give-requires : tie.Need-give-requires
 give-requires c κs = search needs
 
 returns : tie.Need-returns
-returns c = gives (c .before .before .before .before .query-sphere .ensures .0) (c .give .ensures)
+returns c = measures (c .before .before .before .before .query-sphere .ensures) (c .give .ensures)
 
 pub jorghipa-sphere-spec : {M : Type 1} → statement M
 jorghipa-sphere-spec = tie.close (tie.spec query-sphere-requires give-requires returns)

@@ -1,23 +1,21 @@
--- `profile::refusal::box_refusal` meets its contract. Assumes nothing.
+-- `profile::refusal::box_refusal` meets its contract.
 use borrow.Author.Needs.{needs}
-use Rattle.profile.specs.Refusals.{boxRefusal}
+use Rattle.profile.specs.Refusals.{givenTests}
+use Rattle.profile.proofs.Refusals.Ordered.{own-after}
 use Rattle.profile.proofs.refusal.box_refusal.Statement.{statement}
 use Rattle.profile.proofs.refusal.box_refusal.Tie as tie
 
-slice-aggregate-query-refusal : tie.Need-slice-aggregate-query-refusal
-slice-aggregate-query-refusal c = search needs
+slice-aggregate-body-refusal : tie.Need-slice-aggregate-body-refusal
+slice-aggregate-body-refusal c = search needs
 
-box-number-requires : tie.Need-box-number-requires
-box-number-requires c κs = search needs
+bounds-refusal-requires : tie.Need-bounds-refusal-requires
+bounds-refusal-requires c κs = search needs
 
-query-refusal-requires : tie.Need-query-refusal-requires
-query-refusal-requires c κs = c .box-number .ensures .1
+body-refusal-requires : tie.Need-body-refusal-requires
+body-refusal-requires c κs = search needs
 
 returns : tie.Need-returns
-unfolding boxRefusal
-returns c = (rw (← c .before .box-number .ensures .0) (c .query-refusal .ensures .0), c .query-refusal .ensures .1)
+returns c = own-after (givenTests _ _) _ tt (c .body-refusal .ensures) (c .before .bounds-refusal .ensures)
 
 pub box-refusal-spec : {M : Type 1} → statement M
-box-refusal-spec =
-    tie.close
-    (tie.spec slice-aggregate-query-refusal box-number-requires query-refusal-requires returns)
+box-refusal-spec = tie.close (tie.spec slice-aggregate-body-refusal bounds-refusal-requires body-refusal-requires returns)

@@ -1,38 +1,39 @@
--- `profile::refusal::list_refusal` meets its contract. Assumes nothing.
+-- `profile::refusal::list_refusal` meets its contract.
 use borrow.Author.Needs.{needs}
-use borrow.Author.Tests.{eq-eqb, le-ltb, lt-ltb, ne-eqb}
-use Rattle.profile.specs.Steps.{listRefusal}
+use mathlib.Core.List.{append-nil}
+use mathlib.Core.Path.{_∙_}
+use Rattle.profile.specs.Refusals.{numberTests}
+use Rattle.profile.proofs.Refusals.Ordered.{by-first, by-rest, or-else-none}
 use Rattle.profile.proofs.refusal.list_refusal.Statement.{statement}
 use Rattle.profile.proofs.refusal.list_refusal.Tie as tie
 
+shape-refusal-requires : tie.Need-shape-refusal-requires
+shape-refusal-requires c κs = search needs
+
 returns : tie.Need-returns
-unfolding listRefusal
-returns c = (rw (eq-eqb _ _ (c .if1 .taken)), search needs)
+returns c = by-first _ (numberTests _) tt 0 (c .before .shape-refusal .ensures) (c .if1 .taken) ∙ or-else-none _
 
-returns-2 : tie.Need-returns-2
-unfolding listRefusal
-returns-2 c = (rw (ne-eqb _ _ (c .before .if1 .left), lt-ltb _ _ (c .if2 .taken)), search needs)
+slice-aggregate-numbers-refusal : tie.Need-slice-aggregate-numbers-refusal
+slice-aggregate-numbers-refusal c = search needs
 
-returns-3 : tie.Need-returns-3
-unfolding listRefusal
-returns-3 c =
-    (rw (ne-eqb _ _ (c .before .before .if1 .left), le-ltb _ _ (c .before .if2 .left), lt-ltb _ _ (c .if3 .taken)), search needs)
+slice-aggregate-numbers-refusal-2 : tie.Need-slice-aggregate-numbers-refusal-2
+slice-aggregate-numbers-refusal-2 c = search needs
 
 numbers-refusal-requires : tie.Need-numbers-refusal-requires
 numbers-refusal-requires c κs = search needs
 
-returns-4 : tie.Need-returns-4
-unfolding listRefusal
-returns-4 c = (
-  rw (
-    ne-eqb _ _ (c .before .before .before .if1 .left),
-    le-ltb _ _ (c .before .before .if2 .left),
-    le-ltb _ _ (c .before .if3 .left),
-    ← c .numbers-refusal .ensures,
-  ),
-  search needs,
-)
+returns-2 : tie.Need-returns-2
+returns-2 c =
+    by-rest _ (numberTests _) tt (c .before .before .before .before .shape-refusal .ensures) (c .before .before .before .if1 .left)
+    (rw append-nil at (c .numbers-refusal .ensures))
 
 pub list-refusal-spec : {M : Type 1} → statement M
 list-refusal-spec =
-    tie.close (tie.spec returns returns-2 returns-3 numbers-refusal-requires returns-4)
+    tie.close
+    (tie.spec
+    shape-refusal-requires
+    returns
+    slice-aggregate-numbers-refusal
+    slice-aggregate-numbers-refusal-2
+    numbers-refusal-requires
+    returns-2)

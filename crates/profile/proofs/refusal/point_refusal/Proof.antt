@@ -1,21 +1,21 @@
--- `profile::refusal::point_refusal` meets its contract. Assumes nothing.
+-- `profile::refusal::point_refusal` meets its contract.
 use borrow.Author.Needs.{needs}
-use mathlib.Core.Logic.{inl}
-use mathlib.Core.Path.{refl}
-use Rattle.profile.specs.Refusals.{pointRefusal}
+use mathlib.Core.Path.{_∙_}
+use Rattle.profile.proofs.Refusals.Ordered.{or-else-none}
 use Rattle.profile.proofs.refusal.point_refusal.Statement.{statement}
 use Rattle.profile.proofs.refusal.point_refusal.Tie as tie
 
-slice-aggregate-query-refusal : tie.Need-slice-aggregate-query-refusal
-slice-aggregate-query-refusal c = search needs
+slice-aggregate-body-refusal : tie.Need-slice-aggregate-body-refusal
+slice-aggregate-body-refusal c = search needs
 
-query-refusal-requires : tie.Need-query-refusal-requires
-query-refusal-requires c κs = inl refl
+slice-aggregate-body-refusal-2 : tie.Need-slice-aggregate-body-refusal-2
+slice-aggregate-body-refusal-2 c = search needs
+
+body-refusal-requires : tie.Need-body-refusal-requires
+body-refusal-requires c κs = search needs
 
 returns : tie.Need-returns
-unfolding pointRefusal
-returns c = c .query-refusal .ensures
+returns c = c .body-refusal .ensures ∙ or-else-none _
 
 pub point-refusal-spec : {M : Type 1} → statement M
-point-refusal-spec =
-    tie.close (tie.spec slice-aggregate-query-refusal query-refusal-requires returns)
+point-refusal-spec = tie.close (tie.spec slice-aggregate-body-refusal slice-aggregate-body-refusal-2 body-refusal-requires returns)

@@ -1,23 +1,21 @@
--- `profile::refusal::sphere_refusal` meets its contract. Assumes nothing.
+-- `profile::refusal::sphere_refusal` meets its contract.
 use borrow.Author.Needs.{needs}
-use Rattle.profile.specs.Refusals.{sphereRefusal}
+use Rattle.profile.specs.Refusals.{givenTests}
+use Rattle.profile.proofs.Refusals.Ordered.{own-after}
 use Rattle.profile.proofs.refusal.sphere_refusal.Statement.{statement}
 use Rattle.profile.proofs.refusal.sphere_refusal.Tie as tie
 
-slice-aggregate-query-refusal : tie.Need-slice-aggregate-query-refusal
-slice-aggregate-query-refusal c = search needs
+slice-aggregate-body-refusal : tie.Need-slice-aggregate-body-refusal
+slice-aggregate-body-refusal c = search needs
 
-radius-number-requires : tie.Need-radius-number-requires
-radius-number-requires c κs = search needs
+radius-refusal-requires : tie.Need-radius-refusal-requires
+radius-refusal-requires c κs = search needs
 
-query-refusal-requires : tie.Need-query-refusal-requires
-query-refusal-requires c κs = c .radius-number .ensures .1
+body-refusal-requires : tie.Need-body-refusal-requires
+body-refusal-requires c κs = search needs
 
 returns : tie.Need-returns
-unfolding sphereRefusal
-returns c = (rw (← c .before .radius-number .ensures .0) (c .query-refusal .ensures .0), c .query-refusal .ensures .1)
+returns c = own-after (givenTests _ _) _ tt (c .body-refusal .ensures) (c .before .radius-refusal .ensures)
 
 pub sphere-refusal-spec : {M : Type 1} → statement M
-sphere-refusal-spec =
-    tie.close
-    (tie.spec slice-aggregate-query-refusal radius-number-requires query-refusal-requires returns)
+sphere-refusal-spec = tie.close (tie.spec slice-aggregate-body-refusal radius-refusal-requires body-refusal-requires returns)

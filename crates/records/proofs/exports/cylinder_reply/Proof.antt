@@ -1,9 +1,7 @@
--- `records::exports::cylinder_reply` meets its contract: the reply of the answer on the front. Assumes nothing.
-use mathlib.Core.Path.{_∙_, ap}
+-- `records::exports::cylinder_reply` meets its contract: the reply of the answer on the front.
 use borrow.Author.Needs.{needs}
-use Rattle.walk.specs.Cylinders.{cylinderAnswer}
-use Rattle.records.specs.Replies.{cylinderOf, cylinderReply}
-use Rattle.records.specs.Steps.{OfCylinder}
+use Rattle.cylinders.specs.Cylinders.{told, cylinderAnswer}
+use Rattle.records.specs.Replies.{cCylinderReply}
 use Rattle.records.proofs.Replied.{replied}
 use Rattle.records.proofs.exports.cylinder_reply.Statement.{statement}
 use Rattle.records.proofs.exports.cylinder_reply.Tie as tie
@@ -19,9 +17,8 @@ cylinder-reply-of-requires c κs = search needs
 
 returns : tie.Need-returns
 returns c =
-    replied cylinderReply (λ s. cylinderAnswer s (cylinderOf (c .before .before .before .args .bar))) (OfCylinder _)
-    (λ s a h. h .0 ∙ ap (cylinderAnswer s) (c .before .before .cylinder-of .ensures)) _ _ _ _ _
-    (c .before .cylinder-front .ensures) (c .cylinder-reply-of .ensures)
+    replied told cCylinderReply cylinderAnswer (c .before .before .cylinder-of .ensures) (c .before .cylinder-front .ensures)
+    (c .cylinder-reply-of .ensures)
 
 pub cylinder-reply-spec : {M : Type 1} → statement M
 cylinder-reply-spec = tie.close (tie.spec cylinder-of-requires cylinder-front-requires cylinder-reply-of-requires returns)

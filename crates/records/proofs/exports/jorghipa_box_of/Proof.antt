@@ -1,7 +1,7 @@
--- `records::exports::jorghipa_box_of` meets its contract: the walk of `Layer`, at the records of C. Assumes nothing.
+-- `records::exports::jorghipa_box_of` meets its contract: the walk of `Layer`, at the records of C.
 use denote.Struct.Laws as struct-laws
-use Rattle.section.specs.declared.shapes.Answer.the-variants.{Refused}
-use Rattle.records.specs.Replies.{reply}
+use Rattle.profile.specs.Replies.{turned-down}
+use Rattle.records.specs.Replies.{cReply}
 use Rattle.records.specs.Steps.{OfBounds}
 use Rattle.records.proofs.replies.Bounds as body
 use Rattle.records.proofs.replies.Bounds.Laws as body-laws
@@ -27,7 +27,7 @@ form = record {
   answer-typed = λ 𝓤 H A W r w is. struct-laws.lawful answer.the-type answer-laws.the-laws 𝓤 H A W .typed r _ is .0;
   front = front.name;
   Promise = OfBounds;
-  refusal = reply (Refused 3);
+  refusal = cReply (turned-down 3);
   too-many = bounds-too-many;
 }
 

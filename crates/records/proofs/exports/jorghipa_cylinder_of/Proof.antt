@@ -1,7 +1,7 @@
--- `records::exports::jorghipa_cylinder_of` meets its contract: the walk of `Layer`, at the records of C. Assumes nothing.
+-- `records::exports::jorghipa_cylinder_of` meets its contract: the walk of `Layer`, at the records of C.
 use denote.Struct.Laws as struct-laws
-use Rattle.walk.specs.declared.shapes.CylinderAnswer.the-variants.{Refused}
-use Rattle.records.specs.Replies.{cylinderReply}
+use Rattle.profile.specs.Replies.{turned-down}
+use Rattle.records.specs.Replies.{cCylinderReply}
 use Rattle.records.specs.Steps.{OfBar}
 use Rattle.records.proofs.replies.Bar as body
 use Rattle.records.proofs.replies.Bar.Laws as body-laws
@@ -27,7 +27,7 @@ form = record {
   answer-typed = λ 𝓤 H A W r w is. struct-laws.lawful answer.the-type answer-laws.the-laws 𝓤 H A W .typed r _ is .0;
   front = front.name;
   Promise = OfBar;
-  refusal = cylinderReply (Refused 3);
+  refusal = cCylinderReply (turned-down 3);
   too-many = bar-too-many;
 }
 

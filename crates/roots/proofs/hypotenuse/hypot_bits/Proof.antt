@@ -1,5 +1,6 @@
--- `roots::hypotenuse::hypot_bits` meets its contract. Assumes nothing.
-use Rattle.roots.proofs.Root.HypotCore.{ordered, either-way}
+-- `roots::hypotenuse::hypot_bits`. The larger and the smaller operand are a and b in either order, and the hypotenuse does not mind.
+use native.Mathlib.Omega.{arith}
+use Rattle.roots.proofs.Root.HypotCore.{operands, either-way}
 use borrow.Author.Needs.{needs}
 use Rattle.roots.proofs.hypotenuse.hypot_bits.Statement.{statement}
 use Rattle.roots.proofs.hypotenuse.hypot_bits.Tie as tie
@@ -14,20 +15,18 @@ mul-if2 : tie.Need-mul-if2
 mul-if2 c = search needs
 
 hypot-tested-requires : tie.Need-hypot-tested-requires
-hypot-tested-requires c κs = let o = ordered _ _ _ _ (c .before .before .before .larger .ensures)
-    (c .before .before .smaller .ensures) in (o .0, c .before .if1 .taken, c .if2 .taken)
+hypot-tested-requires c κs =
+    let o = operands _ _ _ _ (omega arith) (omega arith) (c .before .before .before .larger .ensures)
+    (c .before .before .smaller .ensures) in
+    search needs
 
 returns : tie.Need-returns
 returns c = either-way _ _ _ _ _ (c .before .before .before .before .before .larger .ensures)
     (c .before .before .before .before .smaller .ensures) (c .before .hypot-tested .ensures (c .if3 .taken))
 
 hypot-searched-requires : tie.Need-hypot-searched-requires
-hypot-searched-requires c κs = let o = ordered _ _ _ _ (c .before .before .larger .ensures)
-    (c .before .smaller .ensures) in (
-      o .0,
-      o .1 9218868437227405312 (c .before .before .before .pre .0)
-          (c .before .before .before .pre .1),
-    )
+hypot-searched-requires c κs = operands _ _ _ _ (omega arith) (omega arith) (c .before .before .larger .ensures)
+    (c .before .smaller .ensures)
 
 returns-2 : tie.Need-returns-2
 returns-2 c = either-way _ _ _ _ _ (c .before .before .before .larger .ensures) (c .before .before .smaller .ensures)

@@ -1,4 +1,4 @@
--- `roots::hypotenuse::hypot_searched` meets its contract. Assumes nothing.
+-- `roots::hypotenuse::hypot_searched`. 27 binades apart the larger operand is the root; nearer, the candidate that the search finds is its bits, or infinity's.
 use mathlib.Core.Path.{_≡_, refl}
 use Prim.Native.Nat.{ℕ, zero, suc, _<_}
 use native.Mathlib.Nat.{zero-lt-suc}
@@ -22,10 +22,10 @@ sub-d c = search needs
 
 returns : tie.Need-returns
 returns c = any-far _ _ _ _ (c .before .before .exponent .ensures) (c .before .exponent2 .ensures)
-    (c .before .before .before .pre .0) (c .before .before .before .pre .1) (c .if1 .taken)
+    (c .before .before .before .pre) (c .if1 .taken)
 
 returns-2 : tie.Need-returns-2
-returns-2 c = nothing _ _ (c .if2 .taken) (c .before .before .before .before .pre .0)
+returns-2 c = nothing _ _ (c .if2 .taken) (c .before .before .before .before .pre .ordered)
 
 mul-mb : tie.Need-mul-mb
 mul-mb c = search needs
@@ -45,7 +45,7 @@ sticky-requires c κs = search needs
 hypot-significand-requires : tie.Need-hypot-significand-requires
 hypot-significand-requires c κs =
     let s = any-shift _ _ _ _ (c .before .before .before .before .exponent .ensures)
-    (c .before .before .before .exponent2 .ensures) (c .before .before .before .before .before .pre .0) in
+    (c .before .before .before .exponent2 .ensures) (c .before .before .before .before .before .pre .ordered) in
     let p = positive _ (c .before .if2 .left) in
     let q = c .sticky .ensures .bit in
     search needs
@@ -59,18 +59,16 @@ add-r c = search needs
 returns-3 : tie.Need-returns-3
 returns-3 c = within _ _ _ (any-law _ _ _ _ _ _ (c .before .before .before .before .before .before .exponent .ensures)
     (c .before .before .before .before .before .exponent2 .ensures)
-    (c .before .before .before .before .before .before .before .pre .0)
+    (c .before .before .before .before .before .before .before .pre .ordered)
     (positive _ (c .before .before .before .if2 .left)) (c .before .before .sticky .ensures)
-    (c .before .hypot-significand .ensures .0) (c .before .hypot-significand .ensures .1)
-    (c .before .hypot-significand .ensures .2) (c .before .hypot-significand .ensures .3)) (c .if3 .taken)
+    (c .before .hypot-significand .ensures)) (c .if3 .taken)
 
 returns-4 : tie.Need-returns-4
 returns-4 c = over _ _ _ (any-law _ _ _ _ _ _ (c .before .before .before .before .before .before .exponent .ensures)
     (c .before .before .before .before .before .exponent2 .ensures)
-    (c .before .before .before .before .before .before .before .pre .0)
+    (c .before .before .before .before .before .before .before .pre .ordered)
     (positive _ (c .before .before .before .if2 .left)) (c .before .before .sticky .ensures)
-    (c .before .hypot-significand .ensures .0) (c .before .hypot-significand .ensures .1)
-    (c .before .hypot-significand .ensures .2) (c .before .hypot-significand .ensures .3)) (c .if3 .left)
+    (c .before .hypot-significand .ensures)) (c .if3 .left)
 
 pub hypot-searched-spec : {M : Type 1} → statement M
 hypot-searched-spec =

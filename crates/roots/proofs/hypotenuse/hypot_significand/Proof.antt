@@ -1,17 +1,19 @@
--- `roots::hypotenuse::hypot_significand` meets its contract. Assumes nothing.
-use mathlib.Core.Path.{_≡_, refl, subst, sym, ap, _∙_}
+-- `roots::hypotenuse::hypot_significand`. The root lies between the larger operand and its double, so that the bisection's two ends round as it asks.
+use mathlib.Core.Path.{_≡_, subst, sym, ap, _∙_}
 use Prim.Native.Nat.{ℕ, _+_, _-_, _*_, _/_, _^_, _≤_, _<_}
-use native.Mathlib.Nat.{le-of-lt, le-trans, le-of-eq, mul-le-mul, mul-le-mul-left, div-le-of-le-mul, add-assoc}
-use native.Mathlib.Nat.{add-comm, add-left-comm, mul-assoc, mul-comm, mul-left-comm, mul-add, add-mul, two-mul}
+use native.Mathlib.Nat.{le-of-lt, le-trans, le-of-eq, mul-le-mul, mul-le-mul-left, div-le-of-le-mul}
 use native.Mathlib.Omega.{arith}
 use lib.Pow.{pow-add}
-use Rattle.roots.specs.Core.{RoundsDownAt, RoundsUp, RoundsDown}
+use Rattle.roots.specs.Steps.{whole, RoundsDownAt, RoundsUp, RoundsDown, Rounded}
 use borrow.Author.Needs.{needs}
 use Rattle.roots.proofs.hypotenuse.hypot_significand.Statement.{statement}
 use Rattle.roots.proofs.hypotenuse.hypot_significand.Tie as tie
 
 up-at : (z t n : ℕ) → n < 2 ^ 53 → 4 * ((n + 1) * (n + 1)) ≤ z → RoundsUp z t n
-up-at z t n l h = record { low = λ g. (omega arith, λ e. omega arith); high = λ g. (omega arith, λ e. omega arith) }
+up-at z t n l h = record {
+  low = λ g. record { reached = omega arith; passed = λ e. omega arith };
+  high = λ g. absurd (omega arith);
+}
 
 first : (z t m : ℕ) → 0 < m → m < 2 ^ 53 → 4 * (m * m) ≤ z → RoundsUp z t (m - 1)
 first z t m p l h = let f : (m - 1) + 1 ≡ m = omega arith in up-at z t (m - 1) (omega arith)
@@ -21,7 +23,7 @@ high-mid : (m : ℕ) → 2 ^ 53 ≤ m + 2 ^ 52 → 4 * m + 2 ≡ 4 * (m + 2 ^ 52
 high-mid m g = omega arith
 
 last-high : (z t k m : ℕ) → z ≤ 8 * (m * m) → RoundsDownAt z t k (4 * m + 2)
-last-high z t k m h = (omega arith, λ e. omega arith)
+last-high z t k m h = record { reached = omega arith; passed = λ e. omega arith }
 
 -- with a name for 2 ^ 52: `omega` stops at numbers of more than 38 digits
 low-square : (P z m : ℕ) → m < P → z ≤ 8 * (m * m) → z < (2 * (m + P) + 1) * (2 * (m + P) + 1)
@@ -31,7 +33,9 @@ under : {z q : ℕ} → z < q → z < q + 1
 under h = omega arith
 
 last-low : (z t k m : ℕ) → m < 2 ^ 52 → z ≤ 8 * (m * m) → RoundsDownAt z t k (2 * (m + 2 ^ 52) + 1)
-last-low z t k m l h = (under (low-square (2 ^ 52) z m l h), λ e. low-square (2 ^ 52) z m l h)
+last-low z t k m l h =
+    let s = low-square (2 ^ 52) z m l h in
+    record { reached = under s; passed = λ e. s }
 
 last : (z t m : ℕ) → m < 2 ^ 53 → z ≤ 8 * (m * m) → RoundsDown z t (m + 2 ^ 52)
 last z t m l h = record {
@@ -44,8 +48,7 @@ twice : (d : ℕ) → 2 * d ≡ d + d
 twice d = omega arith
 
 regroup : (a p : ℕ) → (2 * (a * p)) * (2 * (a * p)) ≡ (p * p) * ((2 * a) * (2 * a))
-regroup a p = simp (two-mul, mul-add, add-mul, mul-assoc, mul-comm, mul-left-comm, add-assoc, add-comm, add-left-comm)
-    refl
+regroup a p = omega arith
 
 quotient : (a b d : ℕ) → b ≤ a * 2 ^ d → (2 * b) * (2 * b) / 2 ^ (2 * d) ≤ (2 * a) * (2 * a)
 quotient a b d h =
@@ -72,26 +75,17 @@ add-bisect c = search needs
 bisect-requires : tie.Need-bisect-requires
 bisect-requires c κs =
     let q = quotient (c .before .args .mb) (c .before .args .ms) (c .before .args .d) (omega arith) in
-    let e = c .sum-of-squares .ensures .0 in
-    let z : ℕ = c .sum-of-squares .result .hi * 2 ^ 56 + c .sum-of-squares .result .lo in
-    let a : 4 * (c .before .args .mb * c .before .args .mb) ≤ c .sum-of-squares .result .hi * 2 ^
-    56 + c .sum-of-squares .result .lo = omega arith in
-    let b : c .sum-of-squares .result .hi * 2 ^
-    56 + c .sum-of-squares .result .lo ≤ 8 * (c .before .args .mb * c .before .args .mb) = omega arith in
-    let u = first z (c .before .args .t) (c .before .args .mb) (omega arith) (omega arith) a in
-    let v = last z (c .before .args .t) (c .before .args .mb) (omega arith) b in
+    let e = c .sum-of-squares .ensures .value in
+    let u = first (whole (c .sum-of-squares .result)) (c .before .args .t) (c .before .args .mb) (omega arith)
+    (omega arith) (omega arith) in
+    let v = last (whole (c .sum-of-squares .result)) (c .before .args .t) (c .before .args .mb) (omega arith)
+    (omega arith) in
     search needs
 
 returns : tie.Need-returns
-returns c = (
-  omega arith,
-  omega arith,
-  subst (λ (x : ℕ). RoundsUp x (c .before .before .args .t)
-      (c .bisect .result - 1)) (c .before .sum-of-squares .ensures .0) (c .bisect .ensures .2),
-  subst
-      (λ (x : ℕ). RoundsDown x (c .before .before .args .t) (c .bisect .result)) (c .before .sum-of-squares .ensures .0)
-      (c .bisect .ensures .3),
-)
+returns c = subst (λ (x : ℕ). Rounded x (c .before .before .args .t) (c .before .before .args .mb - 1)
+    (c .before .before .args .mb + 2 ^ 52) (c .bisect .result)) (c .before .sum-of-squares .ensures .value)
+    (c .bisect .ensures)
 
 pub hypot-significand-spec : {M : Type 1} → statement M
 hypot-significand-spec =

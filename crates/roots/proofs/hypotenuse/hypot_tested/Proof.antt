@@ -1,4 +1,4 @@
--- `roots::hypotenuse::hypot_tested` meets its contract. Assumes nothing.
+-- `roots::hypotenuse::hypot_tested`. What passes the test is the root.
 use Prim.Native.Nat.{_<_}
 use native.Mathlib.Nat.{lt-irrefl}
 use native.Mathlib.Omega.{arith}
@@ -55,12 +55,10 @@ add-result-2 c = search needs
 
 returns : tie.Need-returns
 returns c = λ h. fast-bits _ _ _ _ _ _
-    (c .before .before .before .before .before .before .before .before .before .pre .0)
-    (c .before .before .before .before .before .before .before .before .before .pre .1)
-    (c .before .before .before .before .before .before .before .before .before .pre .2)
+    (c .before .before .before .before .before .before .before .before .before .pre)
     (c .before .before .before .before .before .before .at-least .ensures)
-    (c .before .before .before .before .before .scaled .ensures .0)
-    (c .before .before .before .before .scaled2 .ensures .0) (c .before .before .nearest-half .ensures (omega arith))
+    (c .before .before .before .before .before .scaled .ensures)
+    (c .before .before .before .before .scaled2 .ensures) (c .before .before .nearest-half .ensures (omega arith))
     (c .before .if3 .taken) (c .if4 .taken)
 
 returns-2 : tie.Need-returns-2

@@ -1,4 +1,4 @@
--- `roots::hypotenuse::nearest_half` meets its contract. Assumes nothing.
+-- `roots::hypotenuse::nearest_half`. Of the three candidates about g, the one that the test names, counted from g - 1.
 use native.Mathlib.Omega.{arith}
 use Rattle.roots.proofs.Root.SqrtCore.{below-inside}
 use borrow.Author.Needs.{needs}
@@ -18,8 +18,8 @@ sub-result : tie.Need-sub-result
 sub-result c = search needs
 
 returns : tie.Need-returns
-returns c = λ h. below-inside (c .before .before .sum-of-squares .ensures .0) (omega arith)
-    (c .before .nearest-of-three .ensures .1 (omega arith))
+returns c = λ h. below-inside (c .before .before .sum-of-squares .ensures .value) (omega arith)
+    (c .before .nearest-of-three .ensures .nearest (omega arith))
 
 returns-2 : tie.Need-returns-2
 returns-2 c = search needs

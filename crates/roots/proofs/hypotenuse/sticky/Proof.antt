@@ -1,4 +1,5 @@
--- `roots::hypotenuse::sticky` meets its contract. Assumes nothing.
+-- `roots::hypotenuse::sticky`. The square's digits that a shift loses are those of its lower limb.
+use native.Mathlib.Omega.{arith}
 use Rattle.roots.proofs.Root.HypotSticky.{sticky-zero, sticky-one}
 use borrow.Author.Needs.{needs}
 use Rattle.roots.proofs.hypotenuse.sticky.Statement.{statement}
@@ -23,12 +24,10 @@ shl-if1 : tie.Need-shl-if1
 shl-if1 c = search needs
 
 returns : tie.Need-returns
-returns c = sticky-zero _ _ _ _ (c .before .before .before .before .pre .1)
-    (c .before .before .before .square .ensures .1) (c .before .before .before .square .ensures .0) (c .if1 .taken)
+returns c = sticky-zero _ _ _ (omega arith) (c .before .before .before .square .ensures) (c .if1 .taken)
 
 returns-2 : tie.Need-returns-2
-returns-2 c = sticky-one _ _ _ _ (c .before .before .before .before .pre .1)
-    (c .before .before .before .square .ensures .1) (c .before .before .before .square .ensures .0) (c .if1 .left)
+returns-2 c = sticky-one _ _ _ (omega arith) (c .before .before .before .square .ensures) (c .if1 .left)
 
 pub sticky-spec : {M : Type 1} → statement M
 sticky-spec =

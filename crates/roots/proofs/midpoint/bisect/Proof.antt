@@ -1,8 +1,8 @@
--- `roots::midpoint::bisect` meets its contract. Assumes nothing.
+-- `roots::midpoint::bisect`. The invariant: the root lies between lo and hi, which lie within the two ends.
 use mathlib.Core.Path.{_≡_, subst}
-use Prim.Native.Nat.{ℕ, _+_, _-_, _*_, _^_, _≤_, _<_}
+use Prim.Native.Nat.{ℕ, _+_, _-_, _≤_, _<_}
 use native.Mathlib.Omega.{arith}
-use Rattle.roots.specs.Core.{RoundsUp, RoundsDown}
+use Rattle.roots.specs.Steps.{whole, RoundsUp, Between}
 use borrow.Author.Needs.{needs}
 use Rattle.roots.proofs.midpoint.bisect.Statement.{statement}
 use Rattle.roots.proofs.midpoint.bisect.Tie as tie
@@ -11,8 +11,7 @@ last : (z t lo hi : ℕ) → lo < hi → hi ≤ lo + 1 → RoundsUp z t lo → R
 last z t lo hi h g u = let e : lo ≡ hi - 1 = omega arith in subst (λ (x : ℕ). RoundsUp z t x) e u
 
 abbrev Inv-loop : tie.InvT-loop
-Inv-loop z t lo0 hi0 lo₀ hi₀ lo hi = (lo < hi) × (lo0 ≤ lo) × (hi ≤ hi0) × RoundsUp (z .hi * 2 ^ 56 + z .lo) t lo ×
-    RoundsDown (z .hi * 2 ^ 56 + z .lo) t hi
+Inv-loop z t lo0 hi0 lo₀ hi₀ lo hi = (lo0 ≤ lo) × (hi ≤ hi0) × Between (whole z) t lo hi
 
 abbrev μ-loop : tie.MeasureT-loop
 μ-loop z t lo0 hi0 lo₀ hi₀ lo hi = hi - lo
@@ -36,13 +35,13 @@ loop-less : tie.Need-loop-less Inv-loop μ-loop
 loop-less c = search needs
 
 loop-again : tie.Need-loop-again Inv-loop μ-loop
-loop-again c = let u = c .before .rounds-up .ensures .0 (omega arith) in search needs
+loop-again c = let u = c .before .rounds-up .ensures .one (omega arith) in search needs
 
 loop-less-2 : tie.Need-loop-less-2 Inv-loop μ-loop
 loop-less-2 c = search needs
 
 loop-again-2 : tie.Need-loop-again-2 Inv-loop μ-loop
-loop-again-2 c = let u = c .before .rounds-up .ensures .1 (omega arith) in search needs
+loop-again-2 c = let u = c .before .rounds-up .ensures .nought (omega arith) in search needs
 
 returns : tie.Need-returns Inv-loop μ-loop
 returns c = search (needs, last)

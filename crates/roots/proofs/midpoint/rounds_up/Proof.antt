@@ -1,22 +1,22 @@
--- `roots::midpoint::rounds_up` meets its contract. Assumes nothing.
+-- `roots::midpoint::rounds_up`. The midpoint is that of candidates below 2^53, or above it.
 use Prim.Native.Nat.{ℕ, _+_, _-_, _*_, _^_, _≤_, _<_}
 use native.Mathlib.Omega.{arith}
-use Rattle.roots.specs.Core.{RoundsUpAt, RoundsDownAt, RoundsUp, RoundsDown}
+use Rattle.roots.specs.Steps.{RoundsUpAt, RoundsDownAt, RoundsUp, RoundsDown}
 use borrow.Author.Needs.{needs}
 use Rattle.roots.proofs.midpoint.rounds_up.Statement.{statement}
 use Rattle.roots.proofs.midpoint.rounds_up.Tie as tie
 
 up-low : {z t k : ℕ} → k < 2 ^ 53 → RoundsUpAt z t k (2 * k + 1) → RoundsUp z t k
-up-low h u = record { low = λ g. u; high = λ g. (omega arith, λ e. omega arith) }
+up-low h u = record { low = λ g. u; high = λ g. absurd (omega arith) }
 
 up-high : {z t k : ℕ} → 2 ^ 53 ≤ k → RoundsUpAt z t k (4 * k + 2 - 2 ^ 54) → RoundsUp z t k
-up-high h u = record { low = λ g. (omega arith, λ e. omega arith); high = λ g. u }
+up-high h u = record { low = λ g. absurd (omega arith); high = λ g. u }
 
 down-low : {z t k : ℕ} → k < 2 ^ 53 → RoundsDownAt z t k (2 * k + 1) → RoundsDown z t k
-down-low h u = record { low = λ g. u; high = λ g. (omega arith, λ e. omega arith) }
+down-low h u = record { low = λ g. u; high = λ g. absurd (omega arith) }
 
 down-high : {z t k : ℕ} → 2 ^ 53 ≤ k → RoundsDownAt z t k (4 * k + 2 - 2 ^ 54) → RoundsDown z t k
-down-high h u = record { low = λ g. (omega arith, λ e. omega arith); high = λ g. u }
+down-high h u = record { low = λ g. absurd (omega arith); high = λ g. u }
 
 mul-rounds-up-at : tie.Need-mul-rounds-up-at
 mul-rounds-up-at c = search needs
@@ -40,20 +40,18 @@ rounds-up-at-requires-2 : tie.Need-rounds-up-at-requires-2
 rounds-up-at-requires-2 c κs = search needs
 
 returns : tie.Need-returns
-returns c = (
-  λ e. up-low (omega arith) (c .rounds-up-at .ensures .0 e),
-  λ e. down-low (omega arith)
-      (c .rounds-up-at .ensures .1 e),
-  c .rounds-up-at .ensures .2,
-)
+returns c = record {
+  bit = c .rounds-up-at .ensures .bit;
+  one = λ e. up-low (omega arith) (c .rounds-up-at .ensures .one e);
+  nought = λ e. down-low (omega arith) (c .rounds-up-at .ensures .nought e);
+}
 
 returns-2 : tie.Need-returns-2
-returns-2 c = (
-  λ e. up-high (omega arith) (c .rounds-up-at2 .ensures .0 e),
-  λ e. down-high (omega arith)
-      (c .rounds-up-at2 .ensures .1 e),
-  c .rounds-up-at2 .ensures .2,
-)
+returns-2 c = record {
+  bit = c .rounds-up-at2 .ensures .bit;
+  one = λ e. up-high (omega arith) (c .rounds-up-at2 .ensures .one e);
+  nought = λ e. down-high (omega arith) (c .rounds-up-at2 .ensures .nought e);
+}
 
 pub rounds-up-spec : {M : Type 1} → statement M
 rounds-up-spec =

@@ -1,4 +1,4 @@
--- `roots::square_root::sqrt_searched` meets its contract. Assumes nothing.
+-- `roots::square_root::sqrt_searched`. The radicand's rounded root, at half the exponent.
 use native.Mathlib.Omega.{arith}
 use borrow.Author.Needs.{needs}
 use Rattle.roots.proofs.Root.SqrtCore.{sqrt-law}
@@ -18,11 +18,11 @@ mul-result : tie.Need-mul-result
 mul-result c = search needs
 
 add-result : tie.Need-add-result
-add-result c = let k = sqrt-law _ _ _ _ (c .before .before .pre .2) (c .before .before .pre .3)
+add-result c = let k = sqrt-law _ _ _ _ (c .before .before .pre .exponent-least) (c .before .before .pre .exponent-most)
     (c .before .radicand .ensures) (c .sqrt-significand .ensures) in omega arith
 
 returns : tie.Need-returns
-returns c = sqrt-law _ _ _ _ (c .before .before .pre .2) (c .before .before .pre .3) (c .before .radicand .ensures)
+returns c = sqrt-law _ _ _ _ (c .before .before .pre .exponent-least) (c .before .before .pre .exponent-most) (c .before .radicand .ensures)
     (c .sqrt-significand .ensures)
 
 pub sqrt-searched-spec : {M : Type 1} → statement M

@@ -1,4 +1,4 @@
--- `roots::square_root::sqrt_tested` meets its contract: what passes the test is the root. Assumes nothing.
+-- `roots::square_root::sqrt_tested`. What passes the test is the root.
 use Prim.Native.Nat.{_<_}
 use native.Mathlib.Nat.{lt-irrefl}
 use native.Mathlib.Omega.{arith}
@@ -43,7 +43,7 @@ add-result-2 c = search needs
 returns : tie.Need-returns
 returns c = λ h.
     sqrt-checked _ _ _ _ _ _ (omega arith) (omega arith) (c .before .before .before .before .radicand .ensures)
-    (c .before .before .widened .ensures .0) (omega arith) (c .before .nearest-of-three .ensures .1 (c .if1 .taken))
+    (c .before .before .widened .ensures .value) (omega arith) (c .before .nearest-of-three .ensures .nearest (c .if1 .taken))
 
 returns-2 : tie.Need-returns-2
 returns-2 c = λ (h : 0 < 0). absurd (lt-irrefl 0 h)

@@ -1,4 +1,4 @@
--- `roots::wide::shifted` meets its contract. Assumes nothing.
+-- `roots::wide::shifted`. The lower limb gets what the shift takes from the upper one.
 use mathlib.Core.Path.{_≡_, sym, ap, _∙_}
 use Prim.Native.Nat.{ℕ, _+_, _-_, _*_, _/_, _%_, _^_, _≤_, _<_}
 use native.Mathlib.Nat.{mul-add-div-right, mul-assoc}
@@ -47,9 +47,6 @@ shl-mid c = search needs
 
 shr-low : tie.Need-shr-low
 shr-low c = search needs
-
-low-lt : (l s : ℕ) → l < 2 ^ 56 → l / 2 ^ s < 2 ^ 56
-low-lt l s h = let g = shr-le l s in omega arith
 
 add-l : tie.Need-add-l
 add-l c = let h = shr-le (c .before .before .before .args .q .lo) (c .before .before .before .args .sh) in search needs

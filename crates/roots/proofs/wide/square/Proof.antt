@@ -1,8 +1,7 @@
--- `sq::square` meets its contract.
-use mathlib.Core.Path.{_≡_, refl, sym, ap, _∙_}
+-- `roots::wide::square`. The square of a number of two digits of 28 bits, each product below 2^56.
+use mathlib.Core.Path.{_≡_, sym, ap, _∙_}
 use Prim.Native.Nat.{ℕ, _+_, _*_, _/_, _%_, _^_, _<_}
-use native.Mathlib.Nat.{le-of-lt, lt-of-le-of-lt, mul-le-mul-left, add-assoc, add-comm, add-left-comm, mul-assoc}
-use native.Mathlib.Nat.{mul-comm, mul-left-comm, mul-add, add-mul, two-mul}
+use native.Mathlib.Nat.{le-of-lt, lt-of-le-of-lt, mul-le-mul-left}
 use native.Mathlib.Omega.{arith}
 use lib.Pow.{shl-lt}
 use borrow.Author.Needs.{needs}
@@ -13,11 +12,8 @@ product : {a b : ℕ} (s t : ℕ) → a < 2 ^ s → b < 2 ^ t → a * b < 2 ^ (s
 product {a} s t ha hb = lt-of-le-of-lt (mul-le-mul-left a (le-of-lt hb)) (shl-lt s t ha)
 
 -- the square of a number of two digits
-expand : (P a b : ℕ) → (a * P + b) * (a * P + b) ≡ a * a * (P * P) + (a * b + a * b) * P + b * b
-expand P a b = simp (mul-add, add-mul, mul-assoc, mul-comm, mul-left-comm, add-assoc, add-comm, add-left-comm) refl
-
-twice : (a b : ℕ) → 2 * a * b ≡ a * b + a * b
-twice a b = mul-assoc 2 a b ∙ two-mul (a * b)
+expand : (P a b : ℕ) → (a * P + b) * (a * P + b) ≡ a * a * (P * P) + 2 * a * b * P + b * b
+expand P a b = omega arith
 
 -- c is its two digits
 whole : (c : ℕ) → c / 268435456 * 268435456 + c % 268435456 ≡ c
@@ -25,11 +21,7 @@ whole c = omega arith
 
 digits : (c : ℕ) → c * c ≡ c / 268435456 * (c / 268435456) * 72057594037927936 + (2 * (c / 268435456) * (c %
     268435456)) * 268435456 + c % 268435456 * (c % 268435456)
-digits c =
-    ap (λ (n : ℕ). n * n) (sym (whole c))
-    ∙ expand 268435456 (c / 268435456) (c % 268435456)
-    ∙ ap (λ (n : ℕ). c / 268435456 * (c / 268435456) * 72057594037927936 + n * 268435456 + c %
-    268435456 * (c % 268435456)) (sym (twice (c / 268435456) (c % 268435456)))
+digits c = ap (λ (n : ℕ). n * n) (sym (whole c)) ∙ expand 268435456 (c / 268435456) (c % 268435456)
 
 hi-lt : (c : ℕ) → c < 2 ^ 55 → c / 268435456 < 2 ^ 27
 hi-lt c h = omega arith
@@ -75,8 +67,10 @@ add-h-2 c = let h = aa (c .args .c) (c .pre) in let g = ab (c .args .c) (c .pre)
     arith
 
 returns : tie.Need-returns
-returns c = let e = digits (c .args .c) in let g = product 55 55 (c .pre) (c .pre) in
-    (omega arith, omega arith, omega arith)
+returns c =
+    let e = digits (c .args .c) in
+    let g = product 55 55 (c .pre) (c .pre) in
+    record { value = omega arith; hi-small = omega arith; lo-small = omega arith }
 
 pub square-spec : {M : Type 1} → statement M
 square-spec = tie.close (tie.spec mul-m mul-m-2 mul-l mul-l-2 add-l mul-h add-h add-h-2 returns)

@@ -1,4 +1,4 @@
--- `roots::wide::sum_of_squares` meets its contract. Assumes nothing.
+-- `roots::wide::sum_of_squares`. The shift divides the second square.
 use mathlib.Core.Path.{ap}
 use Prim.Native.Nat.{ℕ, _*_, _/_, _^_}
 use borrow.Author.Needs.{needs}
@@ -22,7 +22,7 @@ plus-requires c κs = search needs
 
 returns : tie.Need-returns
 returns c = let e = ap (λ (n : ℕ). n / 2 ^ (2 * c .before .before .before .before .args .d))
-    (c .before .before .square2 .ensures .0) in search needs
+    (c .before .before .square2 .ensures .value) in search needs
 
 pub sum-of-squares-spec : {M : Type 1} → statement M
 sum-of-squares-spec =

@@ -1,34 +1,33 @@
--- `section::queries::aabb_polygon_distance` meets its contract: the number or the hit, and demand 1 of it. Assumes nothing.
+-- `section::queries::aabb_polygon_distance` meets its contract: the number or the hit, and demand 1 of it.
 use borrow.Author.Needs.{needs}
+use mathlib.Core.Path.{sym, _∙_}
+use Rattle.profile.specs.Refusals.{boundsTests}
+use Rattle.profile.proofs.Refusals.Passed.{section-long}
+use Rattle.profile.proofs.Replies.{answered, refused}
 use Rattle.section.specs.Answers.{boxAnswer}
 use Rattle.section.specs.Demand.{Bounded}
-use Rattle.section.proofs.Demand.Queries.{answered, box-demand}
-use Rattle.section.proofs.Answered.{refused}
+use Rattle.section.proofs.Demand.Queries.{box-demand}
 use Rattle.section.proofs.queries.aabb_polygon_distance.Statement.{statement}
 use Rattle.section.proofs.queries.aabb_polygon_distance.Tie as tie
+
+slice-aggregate-box-refusal : tie.Need-slice-aggregate-box-refusal
+slice-aggregate-box-refusal c = search needs
 
 box-refusal-requires : tie.Need-box-refusal-requires
 box-refusal-requires c κs = search needs
 
 returns : tie.Need-returns
 unfolding boxAnswer
-returns c =
-    answered Bounded (box-demand _ _)
-    (rw (← c .before .box-refusal .ensures .0) (refused _ _ (c .if1 .taken)))
+returns c = answered Bounded (box-demand _ _) (rw (← c .before .box-refusal .ensures) (refused _ _ (c .if1 .taken)))
 
 box-distance-requires : tie.Need-box-distance-requires
-box-distance-requires c κs = c .before .box-refusal .ensures .1 (c .if1 .left)
+box-distance-requires c κs = section-long _ _ (boundsTests _) tt (sym (c .before .box-refusal .ensures) ∙ c .if1 .left)
 
 returns-2 : tie.Need-returns-2
 unfolding boxAnswer
 returns-2 c =
-    answered Bounded (box-demand _ _)
-    (rw (
-      ← c .before .before .box-refusal .ensures .0,
-      c .before .if1 .left,
-      c .box-distance .ensures,
-    ))
+    answered Bounded (box-demand _ _) (rw (← c .before .before .box-refusal .ensures, c .before .if1 .left, c .box-distance .ensures))
 
 pub aabb-polygon-distance-spec : {M : Type 1} → statement M
 aabb-polygon-distance-spec =
-    tie.close (tie.spec box-refusal-requires returns box-distance-requires returns-2)
+    tie.close (tie.spec slice-aggregate-box-refusal box-refusal-requires returns box-distance-requires returns-2)

@@ -1,4 +1,4 @@
--- `store::bytes::byte_at` meets its contract. Assumes nothing.
+-- `store::bytes::byte_at`. A list gives 0 past its end, as the code does.
 use native.Mathlib.Omega.{arith}
 use mathlib.Core.Path.{sym}
 use lib.ListN.{List·getD-eq-default}
@@ -13,10 +13,16 @@ cast-result : tie.Need-cast-result
 cast-result c = omega (arith, c .shared-slice-known .given (c .before .before .args .i))
 
 returns : tie.Need-returns
-returns c = (search needs, omega (arith, c .shared-slice-known .given (c .before .before .args .i)))
+returns c = record {
+  value = search needs;
+  small = omega (arith, c .shared-slice-known .given (c .before .before .args .i));
+}
 
 returns-2 : tie.Need-returns-2
-returns-2 c = (sym (List·getD-eq-default (c .before .args .b .now) 0 (c .if1 .left)), search needs)
+returns-2 c = record {
+  value = sym (List·getD-eq-default (c .before .args .b .now) 0 (c .if1 .left));
+  small = search needs;
+}
 
 pub byte-at-spec : {M : Type 1} → statement M
 byte-at-spec = tie.close (tie.spec shared-slice-read-result cast-result returns returns-2)

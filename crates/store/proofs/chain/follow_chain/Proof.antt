@@ -1,21 +1,20 @@
--- `store::chain::follow_chain` meets its contract: one record of the chain is passed in a turn. Assumes nothing.
-use Prim.Native.Nat.{_-_, _≤_}
+-- `store::chain::follow_chain`. One record of the chain is passed in a turn.
+use Prim.Native.Nat.{_-_}
 use native.Mathlib.Omega.{arith}
 use lib.ListN.{length-set}
-use Rattle.store.specs.Records.{records}
 use Rattle.store.proofs.Following.{Following, starts, turn-ends, turn-breaks, turn-goes-on, used-up, ended, stopped}
 use borrow.Author.Needs.{needs}
 use Rattle.store.proofs.chain.follow_chain.Statement.{statement}
 use Rattle.store.proofs.chain.follow_chain.Tie as tie
 
 abbrev Inv-loop : tie.InvT-loop
-Inv-loop store order₀ count marks₀ k₀ n₀ order marks k n = (records store ≤ 512) × Following store order marks k n
+Inv-loop store order₀ count marks₀ k₀ n₀ order marks k n = Following store order marks k n
 
 abbrev μ-loop : tie.MeasureT-loop
 μ-loop store order₀ count marks₀ k₀ n₀ order marks k n = count - n
 
 loop-holds : tie.Need-loop-holds Inv-loop μ-loop
-loop-holds c = (search needs, starts _ _ (c .before .before .pre .0) (c .before .before .pre .1))
+loop-holds c = starts (c .before .before .pre)
 
 mul-order : tie.Need-mul-order Inv-loop μ-loop
 mul-order c = search needs
@@ -40,8 +39,7 @@ returns c =
     let c₂ = c .before .before in
     let c₄ = c₂ .before .before in
     let c₅ = c₄ .before in
-    ended (turn-ends (c₅ .loop .inv .1) (c₄ .loop-test .taken) (c₅ .loop .inv .0) (c₂ .visit .ensures .1)
-    (c₂ .visit .ensures .0) (c .if1 .taken)) (search needs)
+    ended (turn-ends (c₅ .loop .inv) (c₄ .loop-test .taken) (c₂ .visit .ensures) (c .if1 .taken)) (search needs)
 
 slice-aggregate-is-bad : tie.Need-slice-aggregate-is-bad Inv-loop μ-loop
 slice-aggregate-is-bad c = search needs
@@ -59,8 +57,7 @@ returns-2 c =
     let c₅ = c₃ .before .before in
     let c₇ = c₅ .before .before in
     let c₈ = c₇ .before in
-    stopped (turn-breaks (c₈ .loop .inv .1) (c₇ .loop-test .taken) (c₈ .loop .inv .0) (c₅ .visit .ensures .1)
-    (c₅ .visit .ensures .0) (c₃ .if1 .left) (c₁ .is-bad .ensures) (c .if2 .taken))
+    stopped (turn-breaks (c₈ .loop .inv) (c₇ .loop-test .taken) (c₅ .visit .ensures) (c₃ .if1 .left) (c₁ .is-bad .ensures) (c .if2 .taken))
 
 loop-less : tie.Need-loop-less Inv-loop μ-loop
 loop-less c = search needs
@@ -71,17 +68,15 @@ loop-again c =
     let c₃ = c₁ .before .before in
     let c₅ = c₃ .before .before in
     let c₇ = c₅ .before .before in
-    let c₈ = c₇ .before in (
-      search needs,
-      turn-goes-on (c₈ .loop .inv .1) (c₇ .loop-test .taken) (c₈ .loop .inv .0) (c₅ .visit .ensures .1)
-          (c₅ .visit .ensures .0) (c₃ .if1 .left) (c₁ .is-bad .ensures) (c .if2 .left),
-    )
+    let c₈ = c₇ .before in
+    turn-goes-on (c₈ .loop .inv) (c₇ .loop-test .taken) (c₅ .visit .ensures) (c₃ .if1 .left) (c₁ .is-bad .ensures)
+    (c .if2 .left)
 
 same-length-3 : tie.Need-same-length-3 Inv-loop μ-loop
 same-length-3 c = search needs
 
 returns-3 : tie.Need-returns-3 Inv-loop μ-loop
-returns-3 c = stopped (used-up (c .before .loop .inv .1) (c .loop-test .left))
+returns-3 c = stopped (used-up (c .before .loop .inv) (c .loop-test .left))
 
 pub follow-chain-spec : {M : Type 1} → statement M
 follow-chain-spec =

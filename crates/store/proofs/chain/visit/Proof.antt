@@ -1,4 +1,4 @@
--- `store::chain::visit` meets its contract. Assumes nothing.
+-- `store::chain::visit`. One store, and one read.
 use mathlib.Core.Path.{refl}
 use borrow.Author.Needs.{needs}
 use Rattle.store.proofs.chain.visit.Statement.{statement}
@@ -14,7 +14,7 @@ same-length : tie.Need-same-length
 same-length c = search needs
 
 returns : tie.Need-returns
-returns c = (c .next-of .ensures, refl)
+returns c = record { marked = refl; read = c .next-of .ensures }
 
 pub visit-spec : {M : Type 1} → statement M
 visit-spec = tie.close (tie.spec slice-write-marks next-of-requires same-length returns)

@@ -1,4 +1,4 @@
--- `store::reader::fill_section` meets its contract. Assumes nothing.
+-- `store::reader::fill_section`. More than 256 vertices are number 3; of fewer the space begins with the section.
 use native.Mathlib.Omega.{arith}
 use mathlib.Core.Path.{ap, _∙_}
 use lib.ListN.{length-take}
@@ -16,19 +16,19 @@ same-length : tie.Need-same-length
 same-length c = search needs
 
 returns : tie.Need-returns
-returns c = fills-refused (too-many _ _ (c .before .before .before .gather .ensures .0) (c .if1 .taken))
+returns c = fills-refused (too-many _ _ (c .before .before .before .gather .ensures .size) (c .if1 .taken))
 
 mul-end : tie.Need-mul-end
 mul-end c = search needs
 
-slice-reshare-prefix-section-refusal : tie.Need-slice-reshare-prefix-section-refusal
-slice-reshare-prefix-section-refusal c = search needs
+slice-reshare-prefix-list-refusal : tie.Need-slice-reshare-prefix-list-refusal
+slice-reshare-prefix-list-refusal c = search needs
 
-slice-aggregate-section-refusal : tie.Need-slice-aggregate-section-refusal
-slice-aggregate-section-refusal c = simp length-take (omega arith)
+slice-aggregate-list-refusal : tie.Need-slice-aggregate-list-refusal
+slice-aggregate-list-refusal c = simp length-take (omega arith)
 
-section-refusal-requires : tie.Need-section-refusal-requires
-section-refusal-requires c κs = search needs
+list-refusal-requires : tie.Need-list-refusal-requires
+list-refusal-requires c κs = search needs
 
 same-length-2 : tie.Need-same-length-2
 same-length-2 c = search needs
@@ -38,8 +38,8 @@ returns-2 c =
     let c₁ = c .before in
     let c₃ = c₁ .before .before in
     let c₆ = c₃ .before .before .before in
-    fills-front (section-number (c₆ .gather .ensures .1 (c₃ .if1 .left)) (c₁ .section-refusal .ensures) ∙ ap numbered
-    (c .if2 .taken)) (c₆ .gather .ensures .1 (c₃ .if1 .left)) (search needs)
+    fills-front (section-number (c₆ .gather .ensures .front (c₃ .if1 .left)) (c₁ .list-refusal .ensures) ∙ ap numbered
+    (c .if2 .taken)) (c₆ .gather .ensures .front (c₃ .if1 .left)) (search needs)
 
 same-length-3 : tie.Need-same-length-3
 same-length-3 c = search needs
@@ -49,7 +49,7 @@ returns-3 c =
     let c₁ = c .before in
     let c₃ = c₁ .before .before in
     let c₆ = c₃ .before .before .before in
-    fills-refused (section-number (c₆ .gather .ensures .1 (c₃ .if1 .left)) (c₁ .section-refusal .ensures) ∙
+    fills-refused (section-number (c₆ .gather .ensures .front (c₃ .if1 .left)) (c₁ .list-refusal .ensures) ∙
     numbered-refused _ (c .if2 .left))
 
 pub fill-section-spec : {M : Type 1} → statement M
@@ -60,9 +60,9 @@ fill-section-spec =
     same-length
     returns
     mul-end
-    slice-reshare-prefix-section-refusal
-    slice-aggregate-section-refusal
-    section-refusal-requires
+    slice-reshare-prefix-list-refusal
+    slice-aggregate-list-refusal
+    list-refusal-requires
     same-length-2
     returns-2
     same-length-3

@@ -1,4 +1,4 @@
--- `store::reader::read_chain` meets its contract. Assumes nothing.
+-- `store::reader::read_chain`. A right length leaves it to the links.
 use mathlib.Core.Path.{sym, _∙_}
 use Rattle.store.specs.Store.{chained}
 use Rattle.store.proofs.Filling.{fills-sooner, fills-later}
@@ -22,7 +22,7 @@ follow-chain-requires c κs =
     let c₃ = c₁ .before .before in
     let c₆ = c₃ .before .before .before in
     let h = length-accepted _ (sym (c₃ .length-answer .ensures) ∙ c₁ .enum-told .given .1) in
-    (c₆ .pre, h .0, h .1)
+    record { room = c₆ .pre; some = h .0; most = h .1 }
 
 returns : tie.Need-returns
 returns c = fills-sooner _ (sym (c .before .before .before .length-answer .ensures) ∙ c .before .whole .given .1)

@@ -1,4 +1,4 @@
--- `store::reader::read_store` meets its contract. Assumes nothing.
+-- `store::reader::read_store`. The answer of length and links stands, or else that of kinds and section.
 use native.Mathlib.Omega.{arith}
 use mathlib.Core.Path.{sym}
 use lib.ListN.{length-take}
@@ -23,13 +23,13 @@ array-share-prefix-order : tie.Need-array-share-prefix-order
 array-share-prefix-order c =
     let c₁ = c .before in
     let c₄ = c₁ .before .before .before in
-    omega (arith, c₄ .read-chain .ensures .accepted _ (c₁ .chained2 .given .1) .2)
+    omega (arith, c₄ .read-chain .ensures .accepted _ (c₁ .chained2 .given .1) .small)
 
 slice-aggregate-read-section : tie.Need-slice-aggregate-read-section
 slice-aggregate-read-section c =
     let c₂ = c .before .before in
     let c₅ = c₂ .before .before .before in
-    simp length-take (omega (arith, c₅ .read-chain .ensures .accepted _ (c₂ .chained2 .given .1) .2))
+    simp length-take (omega (arith, c₅ .read-chain .ensures .accepted _ (c₂ .chained2 .given .1) .small))
 
 slice-aggregate-read-section-2 : tie.Need-slice-aggregate-read-section-2
 slice-aggregate-read-section-2 c = search needs
@@ -38,7 +38,10 @@ read-section-requires : tie.Need-read-section-requires
 read-section-requires c κs =
     let c₃ = c .before .before .before in
     let c₆ = c₃ .before .before .before in
-    (search needs, simp length-take (omega (arith, c₆ .read-chain .ensures .accepted _ (c₃ .chained2 .given .1) .2)))
+    record {
+      room = search needs;
+      few = simp length-take (omega (arith, c₆ .read-chain .ensures .accepted _ (c₃ .chained2 .given .1) .small));
+    }
 
 enum-known-section : tie.Need-enum-known-section
 enum-known-section c = search needs
@@ -58,16 +61,16 @@ returns-2 c =
     let c₄ = c₁ .before .before .before in
     let c₈ = c₄ .before .before .before .before in
     let c₁₁ = c₈ .before .before .before in
-    sym (decided-second _ (c₁₁ .read-chain .ensures .accepted _ (c₈ .chained2 .given .1) .0) (c₁₁ .read-chain .ensures
-    .accepted _ (c₈ .chained2 .given .1) .1) (c₄ .read-section .ensures .refused _ _ (c₁ .section .given .1)))
+    let chain = c₁₁ .read-chain .ensures .accepted _ (c₈ .chained2 .given .1) in
+    sym (decided-second _ (chain .good) (chain .front) (c₄ .read-section .ensures .refused _ _ (c₁ .section .given .1)))
 
 returns-3 : tie.Need-returns-3
 returns-3 c =
     let c₃ = c .before .before .before in
     let c₇ = c₃ .before .before .before .before in
     let c₁₀ = c₇ .before .before .before in
-    sym (decided-second _ (c₁₀ .read-chain .ensures .accepted _ (c₇ .chained2 .given .1) .0) (c₁₀ .read-chain .ensures
-    .accepted _ (c₇ .chained2 .given .1) .1) (c₃ .read-section .ensures .accepted _ (c .enum-told .given .1) .0))
+    let chain = c₁₀ .read-chain .ensures .accepted _ (c₇ .chained2 .given .1) in
+    sym (decided-second _ (chain .good) (chain .front) (c₃ .read-section .ensures .accepted _ (c .enum-told .given .1) .good))
 
 pub read-store-spec : {M : Type 1} → statement M
 read-store-spec =

@@ -1,9 +1,8 @@
--- `store::vertices::add_vertex` meets its contract. Assumes nothing.
+-- `store::vertices::add_vertex`. By whether the record is a vertex, and whether there is room.
 use native.Mathlib.Omega.{arith}
-use mathlib.Core.Path.{sym, _∙_}
 use lib.ListN.{length-set}
-use borrow.Author.Tests.{eq-eqb, ne-eqb, le-ltb}
-use Rattle.store.proofs.Gathering.{adds-nothing, adds-vertex}
+use borrow.Author.Tests.{eq-eqb, ne-eqb}
+use Rattle.store.proofs.Gathering.{adds-nothing, adds-no-room, adds-vertex}
 use borrow.Author.Needs.{needs}
 use Rattle.store.proofs.vertices.add_vertex.Statement.{statement}
 use Rattle.store.proofs.vertices.add_vertex.Tie as tie
@@ -60,7 +59,7 @@ returns-2 : tie.Need-returns-2
 returns-2 c =
     let c₁ = c .before in
     let c₂ = c₁ .before in
-    rw (← c₂ .kind-of .ensures, eq-eqb _ _ (c₁ .if1 .taken), le-ltb _ _ (c .if2 .left)) (search needs)
+    adds-no-room _ _ _ _ (rw (← c₂ .kind-of .ensures) (eq-eqb _ _ (c₁ .if1 .taken))) (c .if2 .left)
 
 returns-3 : tie.Need-returns-3
 returns-3 c = adds-nothing _ _ _ _ (rw (← c .before .kind-of .ensures) (ne-eqb _ _ (c .if1 .left)))

@@ -1,6 +1,5 @@
--- `store::vertices::gather` meets its contract: the vertices of one record are put in a turn. Assumes nothing.
-use Prim.Native.Nat.{_-_, _≤_}
-use native.Mathlib.Omega.{arith}
+-- `store::vertices::gather`. The vertices of one record are put in a turn.
+use Prim.Native.Nat.{_-_}
 use lib.ListN.{length}
 use Rattle.store.proofs.Gathering.{Gathered, gathers, none-gathered, all-gathered}
 use borrow.Author.Needs.{needs}
@@ -8,13 +7,13 @@ use Rattle.store.proofs.vertices.gather.Statement.{statement}
 use Rattle.store.proofs.vertices.gather.Tie as tie
 
 abbrev Inv-loop : tie.InvT-loop
-Inv-loop store order space₀ n₀ i₀ space n i = (length order ≤ 512) × Gathered store order space n i
+Inv-loop store order space₀ n₀ i₀ space n i = Gathered store order space n i
 
 abbrev μ-loop : tie.MeasureT-loop
 μ-loop store order space₀ n₀ i₀ space n i = length order - i
 
 loop-holds : tie.Need-loop-holds Inv-loop μ-loop
-loop-holds c = (search needs, none-gathered _ _ _ (c .before .before .before .pre .0))
+loop-holds c = none-gathered _ (c .before .before .before .pre)
 
 mul-add-vertex : tie.Need-mul-add-vertex Inv-loop μ-loop
 mul-add-vertex c = search needs
@@ -35,17 +34,13 @@ loop-again : tie.Need-loop-again Inv-loop μ-loop
 loop-again c =
     let c₂ = c .before .before in
     let c₅ = c₂ .before .before .before in
-    let c₆ = c₅ .before in (
-      search needs,
-      gathers (c₆ .loop .inv .1) (c₅ .loop-test .taken) (c₂ .add-vertex .ensures .0)
-          (c₂ .add-vertex .ensures .1),
-    )
+    gathers (c₅ .before .loop .inv) (c₅ .loop-test .taken) (c₂ .add-vertex .ensures)
 
 same-length : tie.Need-same-length Inv-loop μ-loop
 same-length c = search needs
 
 returns : tie.Need-returns Inv-loop μ-loop
-returns c = all-gathered (c .before .loop .inv .1) (c .loop-test .left)
+returns c = all-gathered (c .before .loop .inv) (c .loop-test .left)
 
 pub gather-spec : {M : Type 1} → statement M
 gather-spec =

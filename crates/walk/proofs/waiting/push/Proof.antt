@@ -1,4 +1,4 @@
--- `walk::waiting::push` meets its contract. Assumes nothing.
+-- `walk::waiting::push`. Two stores above the first n pieces.
 use native.Mathlib.Numerals.{add-one}
 use native.Mathlib.Omega.{arith}
 use mathlib.Core.Path.{refl}
@@ -31,7 +31,14 @@ add-result c = search needs
 
 returns : tie.Need-returns
 returns c =
-    ((refl, rw (add-one (c .args .n)) (pieces-push _ _ _ (omega (arith, c .pre .1)))), simp length-set (c .pre .1))
+    record {
+      count = refl;
+      waits = record {
+        few = omega arith;
+        stored = simp length-set (omega arith);
+        are = rw (add-one (c .args .n)) (pieces-push _ _ _ (omega arith));
+      };
+    }
 
 pub push-spec : {M : Type 1} → statement M
 push-spec =

@@ -1,5 +1,4 @@
--- `walk::walk::band_distance` meets its contract. Assumes nothing.
-use native.Mathlib.Omega.{arith}
+-- `walk::walk::band_distance`. One box of a line, otherwise the walk.
 use Rattle.walk.specs.Walk.{bandDistance}
 use borrow.Author.Needs.{needs}
 use Rattle.walk.proofs.walk.band_distance.Statement.{statement}
@@ -16,7 +15,7 @@ unfolding bandDistance
 returns c = rw (c .before .before .if1 .taken, ← c .before .thin-box .ensures) (c .one-box .ensures)
 
 walk-with-requires : tie.Need-walk-with-requires
-walk-with-requires c κs = (c .before .before .before .pre .0, omega arith, c .before .before .before .pre .1)
+walk-with-requires c κs = search needs
 
 returns-2 : tie.Need-returns-2
 unfolding bandDistance

@@ -1,4 +1,4 @@
--- `walk::walk::walk_with` meets its contract: array and locals are a state of the definition's walk, from start to end.
+-- `walk::walk::walk_with`. Array and locals are a state of the definition's walk, from start to end.
 use Prim.Native.Nat.{_-_}
 use native.Mathlib.Omega.{arith}
 use Rattle.walk.proofs.Loop.{State, begun, ended, cut-short, has-box, has-room, turned}
@@ -27,9 +27,8 @@ infinity-requires c κs = search needs
 
 loop-holds : tie.Need-loop-holds Inv-loop μ-loop
 loop-holds c =
-    let pushed = c .before .before .push .ensures in
-    begun _ (pushed .0) (pushed .1)
-    (c .before .before .before .whole-width .ensures) (c .before .sampled .ensures) (c .infinity .ensures)
+    begun _ (c .before .before .push .ensures) (c .before .before .before .whole-width .ensures)
+    (c .before .sampled .ensures) (c .infinity .ensures)
 
 cut-off-requires : tie.Need-cut-off-requires Inv-loop μ-loop
 cut-off-requires c κs = search needs
@@ -73,11 +72,12 @@ push-halves-requires c κs =
     let start = looped .before .before .before .before .before .before .before in
     let state = looped .loop .inv in
     let left = has-box state (test .if1 .left) in
-    let measured = c .before .before .measure .ensures in (
-      omega (arith, state .few),
-      has-room state (test .before .loop-test .taken) left measured (c .halved .ensures) (start .pre .2),
-      state .stored,
-    )
+    let measured = c .before .before .measure .ensures in
+    record {
+      few = omega (arith, state .few);
+      both = has-room state (test .before .loop-test .taken) left measured (c .halved .ensures) (start .pre .room);
+      stored = state .stored;
+    }
 
 better-requires : tie.Need-better-requires Inv-loop μ-loop
 better-requires c κs = search needs
@@ -109,7 +109,7 @@ loop-again c =
     let halved = c .before .before .before .before .halved .ensures in
     let pushed = c .before .before .before .push-halves .ensures in
     rw (c .larger .ensures, c .before .min .ensures, c .before .before .better .ensures)
-    (turned state (test .before .loop-test .taken) left measured halved (pushed .0) (pushed .1))
+    (turned state (test .before .loop-test .taken) left measured halved pushed)
 
 returns-2 : tie.Need-returns-2 Inv-loop μ-loop
 returns-2 c = ended (c .before .loop .inv) (c .loop-test .left)

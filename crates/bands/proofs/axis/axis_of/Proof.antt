@@ -1,0 +1,58 @@
+-- `bands::axis::axis_of` meets its contract. Assumes nothing.
+use Rattle.bands.specs.Axis.{axis}
+use borrow.Author.Needs.{needs}
+use Rattle.bands.proofs.axis.axis_of.Statement.{statement}
+use Rattle.bands.proofs.axis.axis_of.Tie as tie
+
+axis-dir-requires : tie.Need-axis-dir-requires
+axis-dir-requires c κs = search needs
+
+abs-requires : tie.Need-abs-requires
+abs-requires c κs = search needs
+
+returns : tie.Need-returns
+unfolding axis
+returns c = rw (← c .before .before .axis-dir .ensures, ← c .before .abs .ensures, c .if1 .taken)
+
+abs-requires-2 : tie.Need-abs-requires-2
+abs-requires-2 c κs = search needs
+
+returns-2 : tie.Need-returns-2
+unfolding axis
+returns-2 c =
+    rw (
+      ← c .before .before .before .before .before .axis-dir .ensures,
+      ← c .before .before .before .before .abs .ensures,
+      c .before .before .before .if1 .left,
+      ← c .before .before .abs2 .ensures,
+      c .before .if2 .taken,
+      c .if3 .taken,
+    )
+
+returns-3 : tie.Need-returns-3
+unfolding axis
+returns-3 c =
+    rw (
+      ← c .before .before .before .before .before .axis-dir .ensures,
+      ← c .before .before .before .before .abs .ensures,
+      c .before .before .before .if1 .left,
+      ← c .before .before .abs2 .ensures,
+      c .before .if2 .taken,
+      c .if3 .left,
+    )
+
+returns-4 : tie.Need-returns-4
+unfolding axis
+returns-4 c =
+    rw (
+      ← c .before .before .before .before .axis-dir .ensures,
+      ← c .before .before .before .abs .ensures,
+      c .before .before .if1 .left,
+      ← c .before .abs2 .ensures,
+      c .if2 .left,
+    )
+
+pub axis-of-spec : {M : Type 1} → statement M
+axis-of-spec =
+    tie.close
+    (tie.spec axis-dir-requires abs-requires returns abs-requires-2 returns-2 returns-3 returns-4)

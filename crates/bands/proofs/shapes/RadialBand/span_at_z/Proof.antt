@@ -1,0 +1,18 @@
+-- `walk::shapes::RadialBand::span_at_z` meets its contract. Assumes nothing.
+use Rattle.bands.specs.Band.{spanAt}
+use borrow.Author.Needs.{needs}
+use Rattle.bands.proofs.shapes.RadialBand.span_at_z.Statement.{statement}
+use Rattle.bands.proofs.shapes.RadialBand.span_at_z.Tie as tie
+
+rho-at-requires : tie.Need-rho-at-requires
+rho-at-requires c κs = search needs
+
+span-at-rho-requires : tie.Need-span-at-rho-requires
+span-at-rho-requires c κs = search needs
+
+returns : tie.Need-returns
+unfolding spanAt
+returns c = rw (← c .before .rho-at .ensures, ← c .span-at-rho .ensures)
+
+pub span-at-z-spec : {M : Type 1} → statement M
+span-at-z-spec = tie.close (tie.spec rho-at-requires span-at-rho-requires returns)

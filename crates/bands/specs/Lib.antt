@@ -1,0 +1,3 @@
+-- 01's axis test and band.
+pub mod Axis
+pub mod Band

@@ -1,0 +1,3 @@
+-- The answer of a body's query, kind by kind.
+pub mod OfKind
+pub mod Lowest

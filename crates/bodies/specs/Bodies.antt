@@ -1,0 +1,50 @@
+-- One body: its numbers, its own tests, its distance and what its query answers.
+use Prim.Native.Nat.{ℕ}
+use mathlib.Core.Bool.{false}
+use mathlib.Core.List.{List, []}
+use lib.Ieee.{Float}
+use Rattle.profile.specs.Refusals.{Test, refusal, sphereNumbers, boxNumbers, radiusTests, boundsTests, besideTests}
+use Rattle.profile.specs.Replies.{Reply, reply}
+use Rattle.profile.specs.declared.shapes.CollisionHit.{CollisionHit}
+use Rattle.points.specs.Points.{sphereDistance}
+use Rattle.boxes.specs.Boxes.{boxDistance}
+use Rattle.section.specs.Demand.{Bounded, BoundedOffAxis}
+use Rattle.bands.specs.Axis.{axis}
+use Rattle.walk.specs.declared.shapes.CountedHit.{CountedHit}
+use Rattle.cylinders.specs.Cylinders.{cylinderNumbers, cylinderOwn, cylinderDistance}
+use Rattle.cylinders.specs.Promised.{Promised}
+use Rattle.bodies.specs.declared.shapes.Body.{Body}
+use Rattle.bodies.specs.declared.shapes.Body.the-variants.{Sphere, Box, Cylinder}
+
+abbrev pub bodyNumbers : Body → List Float
+bodyNumbers (Sphere b) = sphereNumbers b
+bodyNumbers (Box x) = boxNumbers x
+bodyNumbers (Cylinder c) = cylinderNumbers c
+
+abbrev pub bodyOwn : Body → List Test
+bodyOwn (Sphere b) = radiusTests (b .radius)
+bodyOwn (Box x) = boundsTests x
+bodyOwn (Cylinder c) = cylinderOwn (c .radius) (axis c)
+
+-- beside a section, with more numbers that are given
+abbrev pub bodyTests : List Float → Body → List Float → List Test
+bodyTests s b extra = besideTests s (bodyNumbers b) extra (bodyOwn b)
+
+-- n boxes, nothing waiting, uncut
+abbrev pub boxesOnly : ℕ → CollisionHit → CountedHit
+boxesOnly n h = record { hit = h; boxes = n; waiting = 0; cut = false }
+
+-- a sphere counts no box, a box one, a cylinder those of its axis
+abbrev pub bodyDistance : List Float → Body → CountedHit
+bodyDistance s (Sphere b) = boxesOnly 0 (sphereDistance s b)
+bodyDistance s (Box x) = boxesOnly 1 (boxDistance s x)
+bodyDistance s (Cylinder c) = cylinderDistance s c
+
+unfoldable pub bodyAnswer : List Float → Body → Reply CountedHit
+bodyAnswer s b = reply (refusal (bodyTests s b [])) (bodyDistance s b)
+
+-- demands 1 and 3 of a hit
+abbrev pub BodyPromised : List Float → Body → CountedHit → Type 0
+BodyPromised s (Sphere b) h = BoundedOffAxis s (h .hit)
+BodyPromised s (Box x) h = Bounded (h .hit)
+BodyPromised s (Cylinder c) h = Promised s c h

@@ -1,0 +1,2 @@
+-- One body beside a section.
+pub mod Bodies

@@ -1,0 +1,6 @@
+// One body: a sphere, a box or a cylinder, and the query of it.
+mod queries;
+mod shapes;
+
+pub use queries::query_body;
+pub use shapes::Body;

@@ -1,0 +1,33 @@
+-- `boxes::aabb::strictly_inside_aabb` meets its contract. Assumes nothing.
+use Rattle.boxes.specs.Boxes.{wellInside}
+use Rattle.boxes.proofs.aabb.strictly_inside_aabb.Statement.{statement}
+use Rattle.boxes.proofs.aabb.strictly_inside_aabb.Tie as tie
+
+returns : tie.Need-returns
+unfolding wellInside
+returns c =
+    rw (
+      c .before .before .before .before .before .before .before .before .if1 .taken,
+      c .before .before .before .before .before .if2 .taken,
+      c .before .before .if3 .taken,
+    )
+
+returns-2 : tie.Need-returns-2
+unfolding wellInside
+returns-2 c =
+    rw (
+      c .before .before .before .before .before .before .if1 .taken,
+      c .before .before .before .if2 .taken,
+      c .if3 .left,
+    )
+
+returns-3 : tie.Need-returns-3
+unfolding wellInside
+returns-3 c = rw (c .before .before .before .if1 .taken, c .if2 .left)
+
+returns-4 : tie.Need-returns-4
+unfolding wellInside
+returns-4 c = rw (c .if1 .left)
+
+pub strictly-inside-aabb-spec : {M : Type 1} → statement M
+strictly-inside-aabb-spec = tie.close (tie.spec returns returns-2 returns-3 returns-4)

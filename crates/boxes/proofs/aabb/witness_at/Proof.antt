@@ -1,0 +1,20 @@
+-- `boxes::aabb::witness_at` meets its contract. Assumes nothing.
+use borrow.Author.Needs.{needs}
+use Rattle.boxes.proofs.aabb.witness_at.Statement.{statement}
+use Rattle.boxes.proofs.aabb.witness_at.Tie as tie
+
+vertex-at-requires : tie.Need-vertex-at-requires
+vertex-at-requires c κs = search needs
+
+strictly-inside-aabb-requires : tie.Need-strictly-inside-aabb-requires
+strictly-inside-aabb-requires c κs = search needs
+
+returns : tie.Need-returns
+returns c = rw (← c .before .before .vertex-at .ensures, ← c .before .strictly-inside-aabb .ensures, c .if1 .taken)
+
+returns-2 : tie.Need-returns-2
+returns-2 c = rw (← c .before .before .vertex-at .ensures, ← c .before .strictly-inside-aabb .ensures, c .if1 .left)
+
+pub witness-at-spec : {M : Type 1} → statement M
+witness-at-spec =
+    tie.close (tie.spec vertex-at-requires strictly-inside-aabb-requires returns returns-2)

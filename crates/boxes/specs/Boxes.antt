@@ -1,0 +1,72 @@
+-- 01's clip (Liang-Barsky) and box distance. Assumes nothing.
+use Prim.Native.Nat.{ℕ, zero, suc}
+use mathlib.Core.Bool.{Bool, _&&_, _||_, cond}
+use mathlib.Core.List.{List, [], _∷_}
+use lib.Ieee.{Float}
+use Rattle.arith.specs.F64.{_⊕_, _⊖_, _⊗_, _≺_, 𝟘, ½, ∞, e-9}
+use Rattle.profile.specs.Vertices.{vertex, hit, count, vertexAt, endAt, upto, any, nearestOf}
+use Rattle.segments.specs.Segments.{along, segments}
+use Rattle.segments.specs.Clip.{clip}
+use Rattle.points.specs.Points.{pointDistance}
+use Rattle.points.specs.Overlap.{result}
+use Rattle.profile.specs.declared.shapes.Aabb.{Aabb}
+use Rattle.profile.specs.declared.shapes.Vertex.{Vertex}
+use Rattle.profile.specs.declared.shapes.CollisionHit.{CollisionHit}
+
+abbrev pub aabb : Float → Float → Float → Float → Aabb
+aabb z0 z1 r0 r1 = record { z0 = z0; z1 = z1; r0 = r0; r1 = r1 }
+
+-- the four corners, from (z0,r0)-(z1,r0) on by (z1,r1) and (z0,r1)
+abbrev pub corners : Aabb → List Float
+corners x = x .z0 ∷ x .r0 ∷ x .z1 ∷ x .r0 ∷ x .z1 ∷ x .r1 ∷ x .z0 ∷ x .r1 ∷ []
+
+-- a clipped edge has 0, its witness where the clip enters; any other takes the first smallest of the four sides
+unfoldable pub edgeBox : Aabb → Vertex → Vertex → CollisionHit
+edgeBox x a b =
+    let c = clip x a b in
+    cond (c .any) (hit 𝟘 (along a b (c .t0)))
+    (nearestOf (λ k. segments a b (vertexAt (corners x) k) (endAt (corners x) k)) (hit ∞ a) 4)
+
+-- more than 1e-9 inside every side
+unfoldable pub wellInside : Aabb → Vertex → Bool
+wellInside x v =
+    (x .z0 ⊕ e-9 ≺ v .z) && ((v .z ≺ x .z1 ⊖ e-9) && ((x .r0 ⊕ e-9 ≺ v .r) && (v .r ≺ x .r1 ⊖ e-9)))
+
+abbrev pub middle : Vertex → Vertex → Vertex
+middle a b = vertex ((a .z ⊕ b .z) ⊗ ½) ((a .r ⊕ b .r) ⊗ ½)
+
+-- the edge's clipped middle lies so
+unfoldable pub crossesBox : Aabb → Vertex → Vertex → Bool
+crossesBox x a b =
+    let c = clip x a b in
+    c .any && wellInside x (middle (along a b (c .t0)) (along a b (c .t1)))
+
+-- centre, (z0,r0), (z1,r0), (z1,r1), (z0,r1)
+abbrev pub probe : Aabb → ℕ → Vertex
+probe x zero = middle (vertexAt (corners x) 0) (vertexAt (corners x) 2)
+probe x (suc k) = vertexAt (corners x) k
+
+-- gap is the first smallest over all edges, axis edges too
+unfoldable pub boxGap : List Float → Aabb → CollisionHit
+boxGap s x = nearestOf (λ k. edgeBox x (vertexAt s k) (endAt s k)) (hit ∞ (vertexAt s 0)) (count s)
+
+-- penetration is the lowest signed distance below 0 at the five probes; each lower one takes over the witness
+unfoldable pub boxPenetration : List Float → Aabb → Vertex → CollisionHit
+boxPenetration s x witness = nearestOf (λ k. pointDistance s (probe x k)) (hit 𝟘 witness) 5
+
+-- the last vertex well inside takes over the witness
+unfoldable pub boxWitness : List Float → Aabb → Vertex → Vertex
+boxWitness s x witness = upto (λ k at. cond (wellInside x (vertexAt s k)) (vertexAt s k) at) witness (count s)
+
+-- a vertex, or an edge's clipped middle, lies well inside
+unfoldable pub boxHolds : List Float → Aabb → Bool
+boxHolds s x =
+    any (λ k. wellInside x (vertexAt s k)) (count s)
+    || any (λ k. crossesBox x (vertexAt s k) (endAt s k)) (count s)
+
+-- 01's box distance
+unfoldable pub boxDistance : List Float → Aabb → CollisionHit
+boxDistance s x =
+    let gap = boxGap s x in
+    let deep = boxPenetration s x (gap .witness) in
+    hit (result (deep .distance) (boxHolds s x) (gap .distance)) (boxWitness s x (deep .witness))

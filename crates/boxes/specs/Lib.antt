@@ -1,0 +1,2 @@
+-- 01's box distance.
+pub mod Boxes

@@ -1,0 +1,220 @@
+// Box distance: the gap over all edges, the depth at five probes of the box, and what lies well inside it.
+ghost use mathlib.Core.Path.{_≡_};
+ghost use mathlib.Core.Bool.{not, _&&_, cond};
+ghost use lib.Ieee.{neg};
+ghost use Prim.Native.Nat.{_<_, _≤_};
+ghost use Rattle.arith.specs.F64.{_≺_, e-9};
+ghost use Rattle.profile.specs.Vertices.{count, vertexAt, endAt, any, nearer, nearestOf};
+ghost use Rattle.segments.specs.Segments.{segments};
+ghost use Rattle.boxes.specs.Boxes.{corners, edgeBox, wellInside, middle, crossesBox};
+ghost use Rattle.boxes.specs.Boxes.{boxGap, boxPenetration, boxWitness, boxHolds, boxDistance};
+use points::deeper_at;
+use points::result_of;
+use profile::Aabb;
+use profile::CollisionHit;
+use profile::Vertex;
+use profile::end_at;
+use profile::nearer_of;
+use profile::vertex_at;
+use segments::INTERIOR;
+use segments::clip_segment;
+use segments::lerp;
+use segments::seg_seg_point_on_first;
+
+// A side of the box may be nearer to the edge from a to b.
+fn nearest_side(a: Vertex, b: Vertex, x: Aabb, best: CollisionHit) -> CollisionHit
+    ensures { λ r. ⌜ r ≡ nearestOf (λ k. segments a b (vertexAt (corners x) k) (endAt (corners x) k)) best 4 ⌝ }
+{
+    let c00 = Vertex { z: x.z0, r: x.r0 };
+    let c10 = Vertex { z: x.z1, r: x.r0 };
+    let c11 = Vertex { z: x.z1, r: x.r1 };
+    let c01 = Vertex { z: x.z0, r: x.r1 };
+    let first = seg_seg_point_on_first(a, b, c00, c10, best);
+    let second = seg_seg_point_on_first(a, b, c10, c11, first);
+    let third = seg_seg_point_on_first(a, b, c11, c01, second);
+    seg_seg_point_on_first(a, b, c01, c00, third)
+}
+
+// The edge from a to b may be nearer to the box.
+pub fn segment_aabb_distance(a: Vertex, b: Vertex, x: Aabb, best: CollisionHit) -> CollisionHit
+    ensures { λ r. ⌜ r ≡ nearer best (edgeBox x a b) ⌝ }
+{
+    let c = clip_segment(a, b, x);
+    let any = c.any;
+    let t0 = c.t0;
+    if any {
+        let entered = CollisionHit {
+            distance: 0.0,
+            witness: lerp(a, b, t0),
+        };
+        return nearer_of(best, entered);
+    }
+    nearest_side(a, b, x, best)
+}
+
+pub fn strictly_inside_aabb(v: Vertex, x: Aabb) -> bool
+    ensures { λ r. ⌜ r ≡ wellInside x v ⌝ }
+{
+    v.z > x.z0 + INTERIOR
+        && (v.z < x.z1 - INTERIOR && (v.r > x.r0 + INTERIOR && v.r < x.r1 - INTERIOR))
+}
+
+fn middle_of(a: Vertex, b: Vertex) -> Vertex
+    ensures { λ r. ⌜ r ≡ middle a b ⌝ }
+{
+    Vertex {
+        z: (a.z + b.z) * 0.5,
+        r: (a.r + b.r) * 0.5,
+    }
+}
+
+pub fn segment_through_interior(a: Vertex, b: Vertex, x: Aabb) -> bool
+    ensures { λ r. ⌜ r ≡ crossesBox x a b ⌝ }
+{
+    let c = clip_segment(a, b, x);
+    let any = c.any;
+    let t0 = c.t0;
+    let t1 = c.t1;
+    if any {
+        return strictly_inside_aabb(middle_of(lerp(a, b, t0), lerp(a, b, t1)), x);
+    }
+    false
+}
+
+// Edge k may be nearer to the box.
+fn gap_at(s: &[f64], x: Aabb, k: usize, best: CollisionHit) -> CollisionHit
+    requires { ⌜ k < count (now s) ⌝ }
+    ensures { λ r. ⌜ r ≡ nearer best (edgeBox x (vertexAt (now (s .entry)) k) (endAt (now (s .entry)) k)) ⌝ }
+{
+    let a = vertex_at(s, k);
+    let b = end_at(s, k);
+    segment_aabb_distance(a, b, x, best)
+}
+
+fn box_gap(s: &[f64], x: Aabb) -> CollisionHit
+    requires { ⌜ 3 ≤ count (now s) ⌝ }
+    ensures { λ r. ⌜ r ≡ boxGap (now (s .entry)) x ⌝ }
+{
+    let n = s.len() / 2;
+    let mut best = CollisionHit {
+        distance: arith::infinity(),
+        witness: vertex_at(s, 0),
+    };
+    let mut k = 0;
+    while k < n {
+        best = gap_at(s, x, k, best);
+        k += 1;
+    }
+    best
+}
+
+fn box_penetration(s: &[f64], x: Aabb, witness: Vertex) -> CollisionHit
+    requires { ⌜ 3 ≤ count (now s) ⌝ }
+    ensures { λ r. ⌜ r ≡ boxPenetration (now (s .entry)) x witness ⌝ }
+{
+    let c00 = Vertex { z: x.z0, r: x.r0 };
+    let c10 = Vertex { z: x.z1, r: x.r0 };
+    let c11 = Vertex { z: x.z1, r: x.r1 };
+    let c01 = Vertex { z: x.z0, r: x.r1 };
+    let none = CollisionHit {
+        distance: 0.0,
+        witness: witness,
+    };
+    let centre = deeper_at(s, middle_of(c00, c11), none);
+    let first = deeper_at(s, c00, centre);
+    let second = deeper_at(s, c10, first);
+    let third = deeper_at(s, c11, second);
+    deeper_at(s, c01, third)
+}
+
+// Vertex k, if it lies well inside, takes over the witness.
+fn witness_at(s: &[f64], x: Aabb, k: usize, at: Vertex) -> Vertex
+    requires { ⌜ k < count (now s) ⌝ }
+    ensures { λ r. ⌜ r ≡ cond (wellInside x (vertexAt (now (s .entry)) k)) (vertexAt (now (s .entry)) k) at ⌝ }
+{
+    let v = vertex_at(s, k);
+    if strictly_inside_aabb(v, x) { v } else { at }
+}
+
+fn box_witness(s: &[f64], x: Aabb, witness: Vertex) -> Vertex
+    ensures { λ r. ⌜ r ≡ boxWitness (now (s .entry)) x witness ⌝ }
+{
+    let n = s.len() / 2;
+    let mut at = witness;
+    let mut k = 0;
+    while k < n {
+        at = witness_at(s, x, k, at);
+        k += 1;
+    }
+    at
+}
+
+fn vertex_inside(s: &[f64], x: Aabb, k: usize) -> bool
+    requires { ⌜ k < count (now s) ⌝ }
+    ensures { λ r. ⌜ r ≡ wellInside x (vertexAt (now (s .entry)) k) ⌝ }
+{
+    strictly_inside_aabb(vertex_at(s, k), x)
+}
+
+fn any_vertex_inside(s: &[f64], x: Aabb) -> bool
+    ensures { λ r. ⌜ r ≡ any (λ k. wellInside x (vertexAt (now (s .entry)) k)) (count (now (s .entry))) ⌝ }
+{
+    let n = s.len() / 2;
+    let mut k = 0;
+    while k < n {
+        if vertex_inside(s, x, k) {
+            return true;
+        }
+        k += 1;
+    }
+    false
+}
+
+fn edge_through(s: &[f64], x: Aabb, k: usize) -> bool
+    requires { ⌜ k < count (now s) ⌝ }
+    ensures { λ r. ⌜ r ≡ crossesBox x (vertexAt (now (s .entry)) k) (endAt (now (s .entry)) k) ⌝ }
+{
+    segment_through_interior(vertex_at(s, k), end_at(s, k), x)
+}
+
+fn any_edge_through(s: &[f64], x: Aabb) -> bool
+    ensures { λ r. ⌜ r ≡ any (λ k. crossesBox x (vertexAt (now (s .entry)) k) (endAt (now (s .entry)) k)) (count (now (s .entry))) ⌝ }
+{
+    let n = s.len() / 2;
+    let mut k = 0;
+    while k < n {
+        if edge_through(s, x, k) {
+            return true;
+        }
+        k += 1;
+    }
+    false
+}
+
+// The search runs only where the penetration does not decide.
+fn box_overlaps(s: &[f64], x: Aabb, penetration: f64) -> bool
+    ensures { λ r. ⌜ r ≡ (not (penetration ≺ neg e-9) && boxHolds (now (s .entry)) x) ⌝ }
+{
+    if penetration < -INTERIOR {
+        return false;
+    }
+    if any_vertex_inside(s, x) {
+        return true;
+    }
+    any_edge_through(s, x)
+}
+
+pub fn box_distance(s: &[f64], x: Aabb) -> CollisionHit
+    requires { ⌜ 3 ≤ count (now s) ⌝ }
+    ensures { λ r. ⌜ r ≡ boxDistance (now (s .entry)) x ⌝ }
+{
+    let gap = box_gap(s, x);
+    let gap_witness = gap.witness;
+    let deep = box_penetration(s, x, gap_witness);
+    let deep_witness = deep.witness;
+    let overlaps = box_overlaps(s, x, deep.distance);
+    CollisionHit {
+        distance: result_of(deep.distance, overlaps, gap.distance),
+        witness: box_witness(s, x, deep_witness),
+    }
+}

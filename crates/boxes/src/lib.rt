@@ -1,0 +1,4 @@
+// Box distance to a half-section.
+mod aabb;
+
+pub use aabb::box_distance;

@@ -1,0 +1,63 @@
+-- What the functions below the entry points compute on the way to the builders. Assumes nothing.
+use Prim.Native.Nat.{ℕ, _+_, _*_}
+use mathlib.Core.Bool.{Bool, _&&_, cond}
+use mathlib.Core.List.{List, []}
+use mathlib.Core.Path.{_≡_}
+use lib.ListN.{set, take}
+use lib.Dec.{ltb}
+use lib.Ieee.{Float}
+use Rattle.arith.specs.F64.{𝟘}
+use Rattle.profile.specs.Vertices.{vertex, count, vertexAt, upto}
+use Rattle.profile.specs.declared.shapes.Vertex.{Vertex}
+use Rattle.profile.specs.Replies.{Reply}
+use Rattle.builders.specs.Builder.{samePoint, lastOf, keep, raised, filled}
+use Rattle.builders.specs.Kept.{told}
+use Rattle.builders.specs.declared.builder.Run.{Run}
+use Rattle.builders.specs.declared.shapes.Kept.{Kept}
+use Rattle.builders.specs.declared.shapes.Kept.the-variants.{Numbers, Refused}
+
+-- a builder's point k: a section's radius is raised to 0, a polygon's is not
+abbrev pub pointOf : Bool → List Float → ℕ → Vertex
+pointOf raise s k = cond raise (raised (vertexAt s k)) (vertexAt s k)
+
+unfoldable pub keptPoints : Bool → List Float → ℕ → List Float
+keptPoints raise s n = upto (λ k. keep (pointOf raise s k)) [] n
+
+-- the last vertex that is kept, (0, 0) while there is none, and how many are
+abbrev pub run : Vertex → ℕ → Run
+run last count = record { last = last; count = count }
+
+abbrev pub runOf : List Float → Run
+runOf kept = run (cond (ltb 0 (count kept)) (lastOf kept) (vertex 𝟘 𝟘)) (count kept)
+
+-- v is within 1e-12 of the last kept vertex
+abbrev pub repeats : Run → Vertex → Bool
+repeats b v = ltb 0 (b .count) && samePoint (b .last) v
+
+unfoldable pub pushed : Vertex → Run → Run
+pushed v b = cond (repeats b v) b (run v (b .count + 1))
+
+-- v is written in place k, below the limit
+unfoldable pub written : ℕ → ℕ → Vertex → List Float → List Float
+written limit k v space = cond (ltb k limit) (set (set space (k * 2) (v .z)) (k * 2 + 1) (v .r)) space
+
+unfoldable pub pushedSpace : ℕ → Vertex → Run → List Float → List Float
+pushedSpace limit v b space = cond (repeats b v) space (written limit (b .count) v space)
+
+-- the first of the kept vertices, up to the limit, in the front of the space
+abbrev pub upTo : ℕ → List Float → List Float → List Float
+upTo limit kept space = filled (take (limit * 2) kept) space
+
+-- number 8, or how many numbers are kept
+unfoldable pub threeKept : ℕ → Kept
+threeKept vertices = cond (ltb vertices 3) (Refused 8) (Numbers (vertices * 2))
+
+-- what a builder promises: its answer, and the space as it leaves it
+pub record Builds (answer : Reply ℕ) (kept space : List Float) (r : Kept) (after : List Float) : Type 0 where
+  pub equal : told r ≡ answer
+  pub space-after : after ≡ filled kept space
+
+-- how many numbers are handed back
+abbrev pub numbersOf : Kept → ℕ
+numbersOf (Numbers n) = n
+numbersOf (Refused n) = 0

@@ -1,0 +1,74 @@
+// The distance of a cylinder, with its counts and its mark.
+ghost use mathlib.Core.Path.{_≡_};
+ghost use Rattle.arith.specs.Vector.{vec};
+ghost use Rattle.cylinders.specs.Cylinders.{cylinderAnswer};
+ghost use Rattle.cylinders.specs.Promised.{Promised};
+ghost use Rattle.capi.specs.Interface.{Measures, Few, bar, places, counts, both, mark, hitCounts, cylinderPlaces};
+use super::distances::give;
+use arith::Vec3;
+use bands::Cylinder;
+use cylinders::CountedAnswer;
+use section::Answer;
+use walk::CountedHit;
+
+fn mark_of(cut: bool) -> u32
+    ensures { λ r. ⌜ r ≡ mark cut ⌝ }
+{
+    if cut { 1 } else { 0 }
+}
+
+// Puts the counts and the mark of a hit into the lent places.
+fn give_counts(h: CountedHit, boxes: &mut u32, waiting: &mut u32, cut: &mut u32)
+    requires { ⌜ Few h ⌝ }
+    ensures { λ r. ⌜ counts (now (boxes .exit)) (now (waiting .exit)) (now (cut .exit)) ≡ hitCounts h ⌝ }
+{
+    *boxes = h.boxes as u32;
+    *waiting = h.waiting as u32;
+    *cut = mark_of(h.cut);
+}
+
+#[no_mangle]
+pub extern "C" fn jorghipa_cylinder(
+    section: &[f64],
+    ax: f64,
+    ay: f64,
+    az: f64,
+    bx: f64,
+    by: f64,
+    bz: f64,
+    radius: f64,
+    distance: &mut f64,
+    witness_z: &mut f64,
+    witness_radius: &mut f64,
+    boxes: &mut u32,
+    waiting: &mut u32,
+    cut: &mut u32,
+) -> u32
+    ensures { λ r. ⌜
+        (let s = now (section .entry) in let c = bar (vec ax ay az) (vec bx by bz) radius in
+        Measures (Promised s c) cylinderPlaces (cylinderAnswer s c) r
+        (both (places (now (distance .entry)) (now («witness_z» .entry)) (now («witness_radius» .entry)))
+        (counts (now (boxes .entry)) (now (waiting .entry)) (now (cut .entry))))
+        (both (places (now (distance .exit)) (now («witness_z» .exit)) (now («witness_radius» .exit)))
+        (counts (now (boxes .exit)) (now (waiting .exit)) (now (cut .exit))))) ⌝ }
+{
+    let a = Vec3 {
+        x: ax,
+        y: ay,
+        z: az,
+    };
+    let b = Vec3 {
+        x: bx,
+        y: by,
+        z: bz,
+    };
+    let answer = cylinders::query_cylinder(section, Cylinder { a, b, radius });
+    match answer {
+        CountedAnswer::Hit(h) => {
+            let hit = h.hit;
+            give_counts(h, boxes, waiting, cut);
+            give(Answer::Hit(hit), distance, witness_z, witness_radius)
+        }
+        CountedAnswer::Refused(n) => n,
+    }
+}

@@ -1,0 +1,108 @@
+// The verdicts: 1 collision, 0 clear.
+ghost use Rattle.arith.specs.Vector.{vec};
+ghost use Rattle.boxes.specs.Boxes.{aabb};
+ghost use Rattle.bodies.specs.declared.shapes.Body.the-variants as body·kinds;
+ghost use Rattle.verdicts.specs.Verdicts.{told, bodyVerdict, convexVerdict};
+ghost use Rattle.capi.specs.Interface.{Gives, ball, bar, mark};
+use arith::Vec3;
+use bands::Cylinder;
+use profile::Aabb;
+use profile::Sphere;
+use verdicts::Verdict;
+
+// Puts a verdict into its place, and gives the number of a refusal.
+fn judge(verdict: Verdict, collision: &mut u32) -> u32
+    ensures { λ r. ⌜ Gives mark (told verdict) r (now (collision .entry)) (now (collision .exit)) ⌝ }
+{
+    match verdict {
+        Verdict::Clear => {
+            *collision = 0;
+            0
+        }
+        Verdict::Collision => {
+            *collision = 1;
+            0
+        }
+        Verdict::Refused(n) => n,
+    }
+}
+
+#[no_mangle]
+pub extern "C" fn jorghipa_verdict_sphere(
+    section: &[f64],
+    x: f64,
+    y: f64,
+    z: f64,
+    radius: f64,
+    clearance: f64,
+    collision: &mut u32,
+) -> u32
+    ensures { λ r. ⌜ Gives mark (bodyVerdict (now (section .entry)) (body·kinds.Sphere (ball (vec x y z) radius)) clearance)
+        r (now (collision .entry)) (now (collision .exit)) ⌝ }
+{
+    let center = Vec3 { x, y, z };
+    let verdict = verdicts::verdict_sphere(section, Sphere { center, radius }, clearance);
+    judge(verdict, collision)
+}
+
+#[no_mangle]
+pub extern "C" fn jorghipa_verdict_box(
+    section: &[f64],
+    z0: f64,
+    z1: f64,
+    r0: f64,
+    r1: f64,
+    clearance: f64,
+    collision: &mut u32,
+) -> u32
+    ensures { λ r. ⌜ Gives mark (bodyVerdict (now (section .entry)) (body·kinds.Box (aabb z0 z1 r0 r1)) clearance)
+        r (now (collision .entry)) (now (collision .exit)) ⌝ }
+{
+    let verdict = verdicts::verdict_box(section, Aabb { z0, z1, r0, r1 }, clearance);
+    judge(verdict, collision)
+}
+
+#[no_mangle]
+pub extern "C" fn jorghipa_verdict_cylinder(
+    section: &[f64],
+    ax: f64,
+    ay: f64,
+    az: f64,
+    bx: f64,
+    by: f64,
+    bz: f64,
+    radius: f64,
+    clearance: f64,
+    collision: &mut u32,
+) -> u32
+    ensures { λ r. ⌜ Gives mark
+        (bodyVerdict (now (section .entry)) (body·kinds.Cylinder (bar (vec ax ay az) (vec bx by bz) radius)) clearance)
+        r (now (collision .entry)) (now (collision .exit)) ⌝ }
+{
+    let a = Vec3 {
+        x: ax,
+        y: ay,
+        z: az,
+    };
+    let b = Vec3 {
+        x: bx,
+        y: by,
+        z: bz,
+    };
+    let verdict = verdicts::verdict_cylinder(section, Cylinder { a, b, radius }, clearance);
+    judge(verdict, collision)
+}
+
+#[no_mangle]
+pub extern "C" fn jorghipa_verdict_convex(
+    convex: &[f64],
+    section: &[f64],
+    clearance: f64,
+    collision: &mut u32,
+) -> u32
+    ensures { λ r. ⌜ Gives mark (convexVerdict (now (convex .entry)) (now (section .entry)) clearance)
+        r (now (collision .entry)) (now (collision .exit)) ⌝ }
+{
+    let verdict = verdicts::verdict_convex(section, convex, clearance);
+    judge(verdict, collision)
+}

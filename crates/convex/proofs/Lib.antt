@@ -1,0 +1,3 @@
+-- Laws that the functions' proofs use.
+pub mod Flags
+pub mod Outside

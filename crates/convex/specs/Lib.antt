@@ -1,0 +1,2 @@
+-- 01's convex body distance.
+pub mod Convex

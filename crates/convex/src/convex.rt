@@ -1,0 +1,261 @@
+// Convex body distance: the gap over all pairs of edges, the depth at the vertices of both, and the
+// search for a proper crossing.
+ghost use mathlib.Core.Path.{_≡_};
+ghost use mathlib.Core.Bool.{not, _&&_};
+ghost use lib.Ieee.{neg};
+ghost use Prim.Native.Nat.{_<_, _≤_};
+ghost use Rattle.arith.specs.F64.{_≺_, 𝟘, e-9};
+ghost use Rattle.arith.specs.Num as num;
+ghost use Rattle.profile.specs.Vertices.{hit, count, vertexAt, endAt, nearer, nearestOf};
+ghost use Rattle.segments.specs.Segments.{closest, segments};
+ghost use Rattle.points.specs.Points.{pointDistance};
+ghost use Rattle.convex.specs.Convex.{convexRow, convexGap, orientation, oneSided, convexNear, convexPoint};
+ghost use Rattle.convex.specs.Convex.{convexPenetration, properCrossing, anyCrossing, convexDistance};
+use points::deeper_at;
+use points::result_of;
+use profile::CollisionHit;
+use profile::Vertex;
+use profile::end_at;
+use profile::nearer_of;
+use profile::vertex_at;
+use segments::BOUNDARY;
+use segments::INTERIOR;
+use segments::closer_between;
+use segments::closest_point;
+use segments::seg_seg_point_on_first;
+
+// Edge j of the section may be nearer to the edge from a to b.
+fn nearer_edge(s: &[f64], j: usize, a: Vertex, b: Vertex, best: CollisionHit) -> CollisionHit
+    requires { ⌜ j < count (now s) ⌝ }
+    ensures { λ r. ⌜ r ≡ nearer best (segments (vertexAt (now (s .entry)) j) (endAt (now (s .entry)) j) a b) ⌝ }
+{
+    seg_seg_point_on_first(vertex_at(s, j), end_at(s, j), a, b, best)
+}
+
+fn convex_row(c: &[f64], s: &[f64], i: usize, start: CollisionHit) -> CollisionHit
+    requires { ⌜ i < count (now c) ⌝ }
+    ensures { λ r. ⌜ r ≡ convexRow (now (c .entry)) (now (s .entry)) i start ⌝ }
+{
+    let a = vertex_at(c, i);
+    let b = end_at(c, i);
+    let m = s.len() / 2;
+    let mut best = start;
+    let mut j = 0;
+    while j < m {
+        best = nearer_edge(s, j, a, b, best);
+        j += 1;
+    }
+    best
+}
+
+fn convex_gap(c: &[f64], s: &[f64]) -> CollisionHit
+    requires { ⌜ 3 ≤ count (now s) ⌝ }
+    ensures { λ r. ⌜ r ≡ convexGap (now (c .entry)) (now (s .entry)) ⌝ }
+{
+    let n = c.len() / 2;
+    let mut best = CollisionHit {
+        distance: arith::infinity(),
+        witness: vertex_at(s, 0),
+    };
+    let mut i = 0;
+    while i < n {
+        best = convex_row(c, s, i, best);
+        i += 1;
+    }
+    best
+}
+
+pub fn orient(a: Vertex, b: Vertex, p: Vertex) -> f64
+    ensures { λ r. ⌜ r ≡ orientation a b p ⌝ }
+{
+    (b.z - a.z) * (p.r - a.r) - (b.r - a.r) * (p.z - a.z)
+}
+
+fn orient_at(c: &[f64], p: Vertex, k: usize) -> f64
+    requires { ⌜ k < count (now c) ⌝ }
+    ensures { λ r. ⌜ r ≡ orientation (vertexAt (now (c .entry)) k) (endAt (now (c .entry)) k) p ⌝ }
+{
+    orient(vertex_at(c, k), end_at(c, k), p)
+}
+
+pub fn point_in_convex(c: &[f64], p: Vertex) -> bool
+    ensures { λ r. ⌜ r ≡ oneSided (now (c .entry)) p ⌝ }
+{
+    let n = c.len() / 2;
+    let mut left = false;
+    let mut right = false;
+    let mut k = 0;
+    while k < n {
+        let cross = orient_at(c, p, k);
+        left = left | (cross > 1e-9);
+        right = right | (cross < -1e-9);
+        if left & right {
+            return false;
+        }
+        k += 1;
+    }
+    true
+}
+
+// Edge k may be closer to p.
+fn closer_edge(c: &[f64], p: Vertex, k: usize, best: f64) -> f64
+    requires { ⌜ k < count (now c) ⌝ }
+    ensures { λ r. ⌜ r ≡ num.min best (closest p (vertexAt (now (c .entry)) k) (endAt (now (c .entry)) k) .distance) ⌝ }
+{
+    let q = closest_point(p, vertex_at(c, k), end_at(c, k));
+    closer_between(best, p, q)
+}
+
+fn convex_near(c: &[f64], p: Vertex) -> f64
+    ensures { λ r. ⌜ r ≡ convexNear (now (c .entry)) p ⌝ }
+{
+    let n = c.len() / 2;
+    let mut best = arith::infinity();
+    let mut k = 0;
+    while k < n {
+        best = closer_edge(c, p, k, best);
+        k += 1;
+    }
+    best
+}
+
+pub fn signed_distance_convex(c: &[f64], p: Vertex) -> f64
+    ensures { λ r. ⌜ r ≡ convexPoint (now (c .entry)) p ⌝ }
+{
+    let best = convex_near(c, p);
+    if !arith::is_finite(best) {
+        return 0.0;
+    }
+    if best <= BOUNDARY {
+        return 0.0;
+    }
+    if point_in_convex(c, p) { -best } else { best }
+}
+
+// The section may be deeper at vertex i of the convex body.
+fn deeper_corner(c: &[f64], s: &[f64], i: usize, best: CollisionHit) -> CollisionHit
+    requires { ⌜ (i < count (now c)) × (3 ≤ count (now s)) ⌝ }
+    ensures { λ r. ⌜ r ≡ nearer best (pointDistance (now (s .entry)) (vertexAt (now (c .entry)) i)) ⌝ }
+{
+    deeper_at(s, vertex_at(c, i), best)
+}
+
+fn deepest_corner(c: &[f64], s: &[f64], witness: Vertex) -> CollisionHit
+    requires { ⌜ 3 ≤ count (now s) ⌝ }
+    ensures { λ r. ⌜ r ≡
+        nearestOf (λ i. pointDistance (now (s .entry)) (vertexAt (now (c .entry)) i)) (hit 𝟘 witness)
+        (count (now (c .entry))) ⌝ }
+{
+    let n = c.len() / 2;
+    let mut best = CollisionHit {
+        distance: 0.0,
+        witness: witness,
+    };
+    let mut i = 0;
+    while i < n {
+        best = deeper_corner(c, s, i, best);
+        i += 1;
+    }
+    best
+}
+
+fn deeper_point(c: &[f64], v: Vertex, best: CollisionHit) -> CollisionHit
+    ensures { λ r. ⌜ r ≡ nearer best (hit (convexPoint (now (c .entry)) v) v) ⌝ }
+{
+    let new = CollisionHit {
+        distance: signed_distance_convex(c, v),
+        witness: v,
+    };
+    nearer_of(best, new)
+}
+
+// Vertex j of the section may be deeper in the convex body. Outside it is not below 0, and needs no
+// distance.
+fn deeper_vertex(c: &[f64], s: &[f64], j: usize, best: CollisionHit) -> CollisionHit
+    requires { ⌜ j < count (now s) ⌝ }
+    ensures { λ r. ⌜ r ≡ nearer best (hit (convexPoint (now (c .entry)) (vertexAt (now (s .entry)) j)) (vertexAt (now (s .entry)) j)) ⌝ }
+{
+    let v = vertex_at(s, j);
+    if best.distance <= 0.0 {
+        if !point_in_convex(c, v) {
+            return best;
+        }
+    }
+    deeper_point(c, v, best)
+}
+
+fn convex_penetration(c: &[f64], s: &[f64], witness: Vertex) -> CollisionHit
+    requires { ⌜ 3 ≤ count (now s) ⌝ }
+    ensures { λ r. ⌜ r ≡ convexPenetration (now (c .entry)) (now (s .entry)) witness ⌝ }
+{
+    let m = s.len() / 2;
+    let mut best = deepest_corner(c, s, witness);
+    let mut j = 0;
+    while j < m {
+        best = deeper_vertex(c, s, j, best);
+        j += 1;
+    }
+    best
+}
+
+pub fn proper_cross(a: Vertex, b: Vertex, c: Vertex, d: Vertex) -> bool
+    ensures { λ r. ⌜ r ≡ properCrossing a b c d ⌝ }
+{
+    orient(a, b, c) * orient(a, b, d) < 0.0 && orient(c, d, a) * orient(c, d, b) < 0.0
+}
+
+fn crosses_edge(s: &[f64], j: usize, a: Vertex, b: Vertex) -> bool
+    requires { ⌜ j < count (now s) ⌝ }
+    ensures { λ r. ⌜ r ≡ properCrossing a b (vertexAt (now (s .entry)) j) (endAt (now (s .entry)) j) ⌝ }
+{
+    proper_cross(a, b, vertex_at(s, j), end_at(s, j))
+}
+
+// The search stops at the first proper crossing.
+fn any_cross(c: &[f64], s: &[f64]) -> bool
+    ensures { λ r. ⌜ r ≡ anyCrossing (now (c .entry)) (now (s .entry)) ⌝ }
+{
+    let n = c.len() / 2;
+    let m = s.len() / 2;
+    let mut found = false;
+    let mut i = 0;
+    'search: while i < n {
+        let a = vertex_at(c, i);
+        let b = end_at(c, i);
+        let mut j = 0;
+        while j < m {
+            if crosses_edge(s, j, a, b) {
+                found = true;
+                break 'search;
+            }
+            j += 1;
+        }
+        i += 1;
+    }
+    found
+}
+
+// The search runs only where the penetration does not decide.
+fn convex_overlaps(c: &[f64], s: &[f64], penetration: f64) -> bool
+    ensures { λ r. ⌜ r ≡ (not (penetration ≺ neg e-9) && anyCrossing (now (c .entry)) (now (s .entry))) ⌝ }
+{
+    if penetration < -INTERIOR {
+        return false;
+    }
+    any_cross(c, s)
+}
+
+pub fn convex_distance(c: &[f64], s: &[f64]) -> CollisionHit
+    requires { ⌜ (3 ≤ count (now c)) × (3 ≤ count (now s)) ⌝ }
+    ensures { λ r. ⌜ r ≡ convexDistance (now (c .entry)) (now (s .entry)) ⌝ }
+{
+    let gap = convex_gap(c, s);
+    let gap_witness = gap.witness;
+    let deep = convex_penetration(c, s, gap_witness);
+    let witness = deep.witness;
+    let overlaps = convex_overlaps(c, s, deep.distance);
+    CollisionHit {
+        distance: result_of(deep.distance, overlaps, gap.distance),
+        witness: witness,
+    }
+}

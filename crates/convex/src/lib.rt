@@ -1,0 +1,4 @@
+// Convex body distance to a half-section.
+mod convex;
+
+pub use convex::convex_distance;

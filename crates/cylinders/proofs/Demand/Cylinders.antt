@@ -1,0 +1,64 @@
+-- Demand 1 of cylinders: where none is turned down the distance is at most 2 ^ 28 and the witness 2 ^ 25, along the
+-- spindle and across it, thin or walked, cut or not; beside a section on the axis only, too.
+use mathlib.Core.List.{List}
+use mathlib.Core.Path.{_≡_, refl}
+use lib.Dec.{lit<, lit≤}
+use lib.Ieee.{Float}
+use Rattle.arith.specs.F64.{_≼_, e-15, e-9}
+use Rattle.arith.proofs.Laws.Sizes.{finite-raise}
+use Rattle.profile.proofs.Steps.{pick}
+use Rattle.boxes.specs.Boxes.{boxDistance}
+use Rattle.section.specs.Demand.{Bounded}
+use Rattle.section.proofs.Demand.Bounds.{finite-upTo}
+use Rattle.section.proofs.Demand.Boxes.{box-upTo}
+use Rattle.section.proofs.Demand.Hits.{BoxUpTo, HitUpTo, VerticesUpTo, hit-raise}
+use Rattle.section.proofs.Demand.Queries.{hit-bounded}
+use Rattle.section.proofs.Demand.UpTo.{upTo-raise, value-upTo}
+use Rattle.bands.specs.Axis.{axis}
+use Rattle.bands.specs.Band.{axialBox}
+use Rattle.bands.specs.declared.shapes.Axis.{Axis}
+use Rattle.bands.specs.declared.shapes.Axis.the-variants.{Axial, Neither, Radial}
+use Rattle.bands.specs.declared.shapes.Cylinder.{Cylinder}
+use Rattle.bands.specs.declared.shapes.RadialBand.{RadialBand}
+use Rattle.bands.proofs.AxialBox.{axial-r0, axial-r1, axial-z0, axial-z1}
+use Rattle.bands.proofs.Limit.{CylinderInLimit, InLimit, bandOf-in-limit}
+use Rattle.walk.specs.Walk.{bandDistance}
+use Rattle.walk.specs.declared.shapes.CountedHit.{CountedHit}
+use Rattle.walk.proofs.Demand.Pieces.{thinBox-upTo}
+use Rattle.walk.proofs.Demand.Walks.{walkAll-upTo, walked-upTo}
+use Rattle.profile.specs.Refusals.{refusal}
+use Rattle.cylinders.specs.Cylinders.{cylinderDistance, cylinderTests}
+use Rattle.cylinders.proofs.Cover.Accepted.{accepted}
+
+axialBox-upTo : {c : Cylinder} → CylinderInLimit c → BoxUpTo 23 (axialBox c)
+axialBox-upTo C =
+    record {
+      z0 = upTo-raise (value-upTo 20 (axial-z0 C .value)) tt;
+      z1 = upTo-raise (value-upTo 20 (axial-z1 C .value)) tt;
+      r0 = finite-upTo (finite-raise (axial-r0 C) tt);
+      r1 = finite-upTo (finite-raise (axial-r1 C) tt);
+    }
+
+module _ {s : List Float} (S : VerticesUpTo 23 s) where
+  band-upTo : {b : RadialBand} → InLimit b → HitUpTo 28 (bandDistance s b .hit)
+  unfolding bandDistance
+  band-upTo {b} B =
+      pick (λ (w : CountedHit). HitUpTo 28 (w .hit)) (b .radius ≼ e-15)
+      (λ h. hit-raise (box-upTo S (thinBox-upTo B)) tt)
+      (λ h. walked-upTo (walkAll-upTo S B e-9 8192 (lit< tt) (record { some = lit< tt; few = lit≤ tt })))
+
+  cylinder-upTo : {c : Cylinder} → CylinderInLimit c → HitUpTo 28 (cylinderDistance s c .hit)
+  unfolding cylinderDistance
+  cylinder-upTo {c} C = by (axis c) refl
+    where
+      along : HitUpTo 28 (boxDistance s (axialBox c))
+      along = hit-raise (box-upTo S (axialBox-upTo C)) tt
+
+      by : (a : Axis) → axis c ≡ a → HitUpTo 28 (cylinderDistance s c .hit)
+      by Axial e = rw e along
+      by Radial e = rw e (band-upTo (bandOf-in-limit C))
+      by Neither e = rw e along
+
+pub cylinder-bounded : (s : List Float) (c : Cylinder) (extra : List Float) → refusal (cylinderTests s c extra) ≡ 0
+    → Bounded (cylinderDistance s c .hit)
+cylinder-bounded s c extra e = let A = accepted s c extra e in hit-bounded (cylinder-upTo (A .section) (A .cylinder)) tt

@@ -1,0 +1,61 @@
+// The distance of a cylinder, by its axis, and the query: a hit with its counts, or a number.
+ghost use mathlib.Core.Path.{_≡_};
+ghost use Prim.Native.Nat.{_≤_};
+ghost use Rattle.profile.specs.Vertices.{count};
+ghost use Rattle.boxes.specs.Boxes.{boxDistance};
+ghost use Rattle.bands.specs.Band.{axialBox, bandOf};
+ghost use Rattle.walk.specs.Walk.{oneBox, bandDistance};
+ghost use Rattle.cylinders.specs.Cylinders.{told, cylinderDistance, cylinderAnswer};
+ghost use Rattle.cylinders.specs.Promised.{Promised};
+ghost use Rattle.cylinders.specs.Steps.{Measurable};
+ghost use Rattle.profile.specs.Replies.{Answers};
+ghost use Rattle.walk.specs.Steps.{BandRoom};
+use super::refusal::cylinder_refusal;
+use super::shapes::CountedAnswer;
+use bands::Axis;
+use bands::Cylinder;
+use bands::RadialBand;
+use bands::axial_box;
+use bands::axis_of;
+use walk::CountedHit;
+use walk::band_distance;
+use walk::one_box;
+
+fn query_axial(s: &[f64], c: Cylinder) -> CountedHit
+    requires { ⌜ 3 ≤ count (now s) ⌝ }
+    ensures { λ r. ⌜ r ≡ oneBox (boxDistance (now (s .entry)) (axialBox c)) ⌝ }
+{
+    one_box(s, axial_box(c))
+}
+
+fn query_radial(s: &[f64], c: Cylinder) -> CountedHit
+    requires { ⌜ (3 ≤ count (now s)) × BandRoom (now s) (bandOf c) ⌝ }
+    ensures { λ r. ⌜ r ≡ bandDistance (now (s .entry)) (bandOf c) ⌝ }
+{
+    band_distance(s, RadialBand::from_cylinder(c))
+}
+
+pub fn cylinder_distance(s: &[f64], c: Cylinder, axis: Axis) -> CountedHit
+    requires { ⌜ Measurable (now s) c axis ⌝ }
+    ensures { λ r. ⌜ r ≡ cylinderDistance (now (s .entry)) c ⌝ }
+{
+    match axis {
+        Axis::Axial => query_axial(s, c),
+        Axis::Radial => query_radial(s, c),
+        Axis::Neither => query_axial(s, c),
+    }
+}
+
+// A hit with its counts and mark, or the number under which the call is turned down. It asks nothing
+// of the caller.
+pub fn query_cylinder(section: &[f64], cylinder: Cylinder) -> CountedAnswer
+    ensures { λ r. ⌜ (let s = now (section .entry) in Answers (told r) (cylinderAnswer s cylinder) (Promised s cylinder)) ⌝ }
+{
+    let axis = axis_of(cylinder);
+    let none = [0.0; 0];
+    let number = cylinder_refusal(section, cylinder, axis, &none);
+    if number != 0 {
+        return CountedAnswer::Refused(number);
+    }
+    CountedAnswer::Hit(cylinder_distance(section, cylinder, axis))
+}

@@ -1,0 +1,33 @@
+// What is turned down of a cylinder: its tests in their order, the number of the first that is true, 0 for none.
+ghost use mathlib.Core.Path.{_≡_};
+ghost use Rattle.profile.specs.Refusals.{refusal};
+ghost use Rattle.bands.specs.Axis as axes;
+ghost use Rattle.cylinders.specs.Cylinders.{cylinderOwn};
+ghost use Rattle.cylinders.specs.Steps.{Checked};
+use bands::Axis;
+use bands::Cylinder;
+use profile::body_refusal;
+
+// A negative radius, and an axis neither along nor across the spindle.
+fn own_refusal(radius: f64, axis: Axis) -> u32
+    ensures { λ r. ⌜ r ≡ refusal (cylinderOwn radius axis) ⌝ }
+{
+    if radius < 0.0 {
+        return 9;
+    }
+    match axis {
+        Axis::Axial => 0,
+        Axis::Radial => 0,
+        Axis::Neither => 11,
+    }
+}
+
+pub fn cylinder_refusal(s: &[f64], c: Cylinder, axis: Axis, extra: &[f64]) -> u32
+    requires { ⌜ axis ≡ axes.axis c ⌝ }
+    ensures { λ r. ⌜ Checked (now (s .entry)) c (now (extra .entry)) r ⌝ }
+{
+    let a = c.a;
+    let b = c.b;
+    let numbers = [a.x, a.y, a.z, b.x, b.y, b.z, c.radius];
+    body_refusal(s, &numbers[..], extra, own_refusal(c.radius, axis))
+}

@@ -1,0 +1,3 @@
+-- Laws that the functions' proofs use.
+pub mod Asked
+pub mod Outside

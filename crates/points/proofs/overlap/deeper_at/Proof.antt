@@ -1,0 +1,31 @@
+-- `points::overlap::deeper_at` meets its contract: what lies outside is not below 0. Assumes nothing.
+use borrow.Author.Needs.{needs}
+use mathlib.Core.Path.{sym, _∙_}
+use borrow.Author.Tests.{not-true}
+use Rattle.points.proofs.Outside.{point-outside}
+use Rattle.points.proofs.overlap.deeper_at.Statement.{statement}
+use Rattle.points.proofs.overlap.deeper_at.Tie as tie
+
+in-section-requires : tie.Need-in-section-requires
+in-section-requires c κs = search needs
+
+returns : tie.Need-returns
+returns c =
+    rw (
+    point-outside _ (c .before .before .if1 .taken) _ _
+    (sym (c .before .in-section .ensures) ∙ not-true _ (c .if2 .taken))
+    )
+
+signed-distance-2d-requires : tie.Need-signed-distance-2d-requires
+signed-distance-2d-requires c κs = search needs
+
+nearer-of-requires : tie.Need-nearer-of-requires
+nearer-of-requires c κs = search needs
+
+returns-2 : tie.Need-returns-2
+returns-2 c = rw (← c .before .signed-distance-2d .ensures, ← c .nearer-of .ensures)
+
+pub deeper-at-spec : {M : Type 1} → statement M
+deeper-at-spec =
+    tie.close
+    (tie.spec in-section-requires returns signed-distance-2d-requires nearer-of-requires returns-2)

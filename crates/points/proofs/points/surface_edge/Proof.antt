@@ -1,0 +1,19 @@
+-- `points::points::surface_edge` meets its contract. Assumes nothing.
+use borrow.Author.Needs.{needs}
+use Rattle.points.proofs.points.surface_edge.Statement.{statement}
+use Rattle.points.proofs.points.surface_edge.Tie as tie
+
+edge-is-surface-requires : tie.Need-edge-is-surface-requires
+edge-is-surface-requires c κs = search needs
+
+point-segment-requires : tie.Need-point-segment-requires
+point-segment-requires c κs = search needs
+
+returns : tie.Need-returns
+returns c = rw (← c .before .before .edge-is-surface .ensures, c .before .if1 .taken, ← c .point-segment .ensures)
+
+returns-2 : tie.Need-returns-2
+returns-2 c = rw (← c .before .edge-is-surface .ensures, c .if1 .left)
+
+pub surface-edge-spec : {M : Type 1} → statement M
+surface-edge-spec = tie.close (tie.spec edge-is-surface-requires point-segment-requires returns returns-2)

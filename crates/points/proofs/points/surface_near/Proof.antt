@@ -1,0 +1,58 @@
+-- `points::points::surface_near` meets its contract: a fold. Assumes nothing.
+use Prim.Native.Nat.{_≤_, _-_}
+use native.Mathlib.Omega.{arith}
+use mathlib.Core.Path.{_≡_}
+use Rattle.arith.specs.F64.{∞}
+use Rattle.profile.specs.Vertices.{hit, vertexAt, upto}
+use Rattle.points.specs.Points.{surfaceStep, surfaceNear}
+use Rattle.profile.proofs.Fold.{upto-more, upto-end}
+use borrow.Author.Needs.{needs}
+use Rattle.points.proofs.points.surface_near.Statement.{statement}
+use Rattle.points.proofs.points.surface_near.Tie as tie
+
+abbrev Inv-loop : tie.InvT-loop
+Inv-loop s p n best₀ k₀ best k = (k ≤ n) × (best ≡ upto (surfaceStep s p) (hit ∞ (vertexAt s 0)) k)
+
+abbrev μ-loop : tie.MeasureT-loop
+μ-loop s p n best₀ k₀ best k = n - k
+
+infinity-requires : tie.Need-infinity-requires Inv-loop μ-loop
+infinity-requires c κs = search needs
+
+vertex-at-requires : tie.Need-vertex-at-requires Inv-loop μ-loop
+vertex-at-requires c κs = search needs
+
+loop-holds : tie.Need-loop-holds Inv-loop μ-loop
+unfolding upto
+loop-holds c = (search needs, rw (c .vertex-at .ensures, c .before .infinity .ensures))
+
+surface-step-requires : tie.Need-surface-step-requires Inv-loop μ-loop
+surface-step-requires c κs = search needs
+
+add-k : tie.Need-add-k Inv-loop μ-loop
+add-k c = search needs
+
+loop-less : tie.Need-loop-less Inv-loop μ-loop
+loop-less c = search needs
+
+loop-again : tie.Need-loop-again Inv-loop μ-loop
+loop-again c = (search needs, upto-more _ _ _ (c .before .before .loop .inv .1) (c .surface-step .ensures))
+
+returns : tie.Need-returns Inv-loop μ-loop
+unfolding surfaceNear
+returns c = upto-end _ _ _ (c .before .loop .inv .1) _ (omega arith)
+
+pub surface-near-spec : {M : Type 1} → statement M
+surface-near-spec =
+    tie.close
+    (tie.spec
+    Inv-loop
+    μ-loop
+    infinity-requires
+    vertex-at-requires
+    loop-holds
+    surface-step-requires
+    add-k
+    loop-less
+    loop-again
+    returns)

@@ -1,0 +1,192 @@
+// The distance of a point and of a sphere to the section, and its sign.
+ghost use mathlib.Core.Path.{_≡_};
+ghost use mathlib.Core.Bool.{cond};
+ghost use Prim.Native.Nat.{_<_, _≤_};
+ghost use lib.Ieee.{unlike};
+ghost use Rattle.profile.specs.Vertices.{count, vertexAt, endAt, any, nearer};
+ghost use Rattle.segments.specs.Segments.{closest};
+ghost use Rattle.points.specs.Points as points;
+ghost use Rattle.points.specs.Points.{surface, surfaceStep, surfaceNear, crossing, oddCrossings};
+ghost use Rattle.points.specs.Points.{insideAxisEdge, inSection, pointDistance, sphereDistance};
+use arith::Vec3;
+use profile::CollisionHit;
+use profile::Sphere;
+use profile::Vertex;
+use profile::end_at;
+use profile::vertex_at;
+use segments::BOUNDARY;
+use segments::point_segment;
+
+// An edge with both ends on the axis is no surface.
+fn edge_is_surface(a: Vertex, b: Vertex) -> bool
+    ensures { λ r. ⌜ r ≡ surface a b ⌝ }
+{
+    arith::abs(a.r) > 1e-9 || arith::abs(b.r) > 1e-9
+}
+
+// The edge from a to b, if it counts, lowers the distance that best has.
+fn surface_edge(p: Vertex, a: Vertex, b: Vertex, best: CollisionHit) -> CollisionHit
+    ensures { λ r. ⌜ r ≡ cond (surface a b) (nearer best (closest p a b)) best ⌝ }
+{
+    if edge_is_surface(a, b) {
+        return point_segment(p, a, b, best);
+    }
+    best
+}
+
+fn surface_step(s: &[f64], p: Vertex, k: usize, best: CollisionHit) -> CollisionHit
+    requires { ⌜ k < count (now s) ⌝ }
+    ensures { λ r. ⌜ r ≡ surfaceStep (now (s .entry)) p k best ⌝ }
+{
+    surface_edge(p, vertex_at(s, k), end_at(s, k), best)
+}
+
+fn surface_near(s: &[f64], p: Vertex) -> CollisionHit
+    requires { ⌜ 3 ≤ count (now s) ⌝ }
+    ensures { λ r. ⌜ r ≡ surfaceNear (now (s .entry)) p ⌝ }
+{
+    let n = s.len() / 2;
+    let mut best = CollisionHit {
+        distance: arith::infinity(),
+        witness: vertex_at(s, 0),
+    };
+    let mut k = 0;
+    while k < n {
+        best = surface_step(s, p, k, best);
+        k += 1;
+    }
+    best
+}
+
+// The edge crosses the line from p along z, beyond p.
+fn crosses(p: Vertex, a: Vertex, b: Vertex) -> bool
+    ensures { λ r. ⌜ r ≡ crossing p a b ⌝ }
+{
+    let pr = p.r;
+    let ar = a.r;
+    let br = b.r;
+    if (ar > pr) == (br > pr) {
+        return false;
+    }
+    let denom = br - ar;
+    if arith::abs(denom) <= 1e-18 {
+        return false;
+    }
+    a.z + (b.z - a.z) * (pr - ar) / denom > p.z
+}
+
+fn odd_step(s: &[f64], p: Vertex, k: usize, odd: bool) -> bool
+    requires { ⌜ k < count (now s) ⌝ }
+    ensures { λ r. ⌜ r ≡ unlike odd (crossing p (vertexAt (now (s .entry)) k) (endAt (now (s .entry)) k)) ⌝ }
+{
+    odd != crosses(p, vertex_at(s, k), end_at(s, k))
+}
+
+fn point_inside(s: &[f64], p: Vertex) -> bool
+    ensures { λ r. ⌜ r ≡ oddCrossings (now (s .entry)) p ⌝ }
+{
+    let n = s.len() / 2;
+    let mut odd = false;
+    let mut k = 0;
+    while k < n {
+        odd = odd_step(s, p, k, odd);
+        k += 1;
+    }
+    odd
+}
+
+fn inside_axis_edge(z: f64, a: Vertex, b: Vertex) -> bool
+    ensures { λ r. ⌜ r ≡ insideAxisEdge z a b ⌝ }
+{
+    if edge_is_surface(a, b) {
+        return false;
+    }
+    let z0 = arith::min(a.z, b.z);
+    let z1 = arith::max(a.z, b.z);
+    z > z0 + 1e-9 && z < z1 - 1e-9
+}
+
+fn axis_step(s: &[f64], z: f64, k: usize) -> bool
+    requires { ⌜ k < count (now s) ⌝ }
+    ensures { λ r. ⌜ r ≡ insideAxisEdge z (vertexAt (now (s .entry)) k) (endAt (now (s .entry)) k) ⌝ }
+{
+    inside_axis_edge(z, vertex_at(s, k), end_at(s, k))
+}
+
+fn on_axis(s: &[f64], z: f64) -> bool
+    ensures { λ r. ⌜ (let l = now (s .entry) in r ≡ any (λ k. insideAxisEdge z (vertexAt l k) (endAt l k)) (count l)) ⌝ }
+{
+    let n = s.len() / 2;
+    let mut k = 0;
+    while k < n {
+        if axis_step(s, z, k) {
+            return true;
+        }
+        k += 1;
+    }
+    false
+}
+
+pub fn in_section(s: &[f64], p: Vertex) -> bool
+    ensures { λ r. ⌜ r ≡ inSection (now (s .entry)) p ⌝ }
+{
+    if point_inside(s, p) {
+        return true;
+    }
+    if p.r <= 1e-8 {
+        return on_axis(s, p.z);
+    }
+    false
+}
+
+pub fn signed_distance_2d(s: &[f64], p: Vertex) -> CollisionHit
+    requires { ⌜ 3 ≤ count (now s) ⌝ }
+    ensures { λ r. ⌜ r ≡ pointDistance (now (s .entry)) p ⌝ }
+{
+    let near = surface_near(s, p);
+    let best = near.distance;
+    let witness = near.witness;
+    if arith::is_finite(best) {
+        if best <= BOUNDARY {
+            return CollisionHit {
+                distance: 0.0,
+                witness,
+            };
+        }
+        if in_section(s, p) {
+            return CollisionHit {
+                distance: -best,
+                witness,
+            };
+        }
+        return near;
+    }
+    CollisionHit {
+        distance: arith::infinity(),
+        witness,
+    }
+}
+
+// Where a point of space lies in its half-plane.
+pub fn meridian(p: Vec3) -> Vertex
+    ensures { λ r. ⌜ r ≡ points.meridian p ⌝ }
+{
+    Vertex {
+        z: p.z,
+        r: arith::hypot(p.x, p.y),
+    }
+}
+
+pub fn sphere_distance(s: &[f64], sphere: Sphere) -> CollisionHit
+    requires { ⌜ 3 ≤ count (now s) ⌝ }
+    ensures { λ r. ⌜ r ≡ sphereDistance (now (s .entry)) sphere ⌝ }
+{
+    let radius = sphere.radius;
+    let center = sphere.center;
+    let near = signed_distance_2d(s, meridian(center));
+    let witness = near.witness;
+    CollisionHit {
+        distance: near.distance - radius,
+        witness,
+    }
+}

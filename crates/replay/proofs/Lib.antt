@@ -1,4 +1,0 @@
--- What the proofs of the functions share.
-pub mod Digits
-pub mod Fronts
-pub mod ToFront

@@ -1,0 +1,70 @@
+-- No distance of a section is a NaN, whatever its numbers: the search starts with an infinity or 0, and a NaN is never
+-- strictly smaller.
+use Prim.Native.Nat.{ℕ}
+use mathlib.Core.List.{List}
+use lib.Ieee.{Float, binary64, fits, isNan, neg, ofBits}
+use Rattle.arith.specs.F64.{_≺_, _≼_, 𝟘, ∞, e-9, e-12}
+use Rattle.arith.specs.Num.{isFinite}
+use Rattle.arith.proofs.Laws.Extended.{neg-number}
+use Rattle.arith.proofs.Laws.OrderHeld.{number-held}
+use Rattle.arith.proofs.Laws.Sizes.{Number, cond-keeps, zero-number}
+use Rattle.profile.specs.Vertices.{hit, nearestOf, count, vertexAt, endAt}
+use Rattle.profile.specs.declared.shapes.Aabb.{Aabb}
+use Rattle.profile.specs.declared.shapes.CollisionHit.{CollisionHit}
+use Rattle.profile.specs.declared.shapes.Vertex.{Vertex}
+use Rattle.profile.proofs.Numbers.{Held, NumberHit, infinite, nearer-number, nearest-number}
+use Rattle.profile.proofs.Steps.{pick, upto-keeps}
+use Rattle.segments.specs.Segments.{closest, segments}
+use Rattle.segments.specs.Clip.{clip}
+use Rattle.segments.proofs.Held.{closest-held, segments-held}
+use Rattle.points.specs.Overlap.{result}
+use Rattle.points.specs.Points.{surface, surfaceStep, surfaceNear, inSection, pointDistance}
+use Rattle.boxes.specs.Boxes.{corners, edgeBox, probe, boxGap, boxPenetration, boxHolds, boxDistance}
+
+-- ---- points
+surface-number : (s : List Float) (p : Vertex) → NumberHit (surfaceNear s p)
+unfolding surfaceNear surfaceStep
+surface-number s p =
+    upto-keeps NumberHit (surfaceStep s p) (hit ∞ (vertexAt s 0)) (count s) infinite
+    (λ k l x q. pick NumberHit (surface (vertexAt s k) (endAt s k))
+    (λ h. nearer-number x (closest p (vertexAt s k) (endAt s k)) q (closest-held p (vertexAt s k) (endAt s k))) (λ h. q))
+
+pub point-number : (s : List Float) (p : Vertex) → NumberHit (pointDistance s p)
+unfolding pointDistance
+point-number s p =
+    let d = surfaceNear s p .distance in
+    let h = surface-number s p in
+    cond-keeps Number (isFinite d)
+    (cond-keeps Number (d ≼ e-12) zero-number (cond-keeps Number (inSection s p) (neg-number binary64 d h) h)) infinite
+
+-- ---- boxes
+edge-held : (x : Aabb) (a b : Vertex) → Held (edgeBox x a b)
+unfolding edgeBox
+edge-held x a b =
+    pick Held (clip x a b .any) (λ h. number-held binary64 𝟘 zero-number)
+    (λ h. number-held binary64 (nearestOf side (hit ∞ a) 4 .distance)
+    (nearest-number side (hit ∞ a) 4 infinite (λ k. segments-held a b (vertexAt (corners x) k) (endAt (corners x) k))))
+  where
+    side : ℕ → CollisionHit
+    side k = segments a b (vertexAt (corners x) k) (endAt (corners x) k)
+
+gap-number : (s : List Float) (x : Aabb) → NumberHit (boxGap s x)
+unfolding boxGap
+gap-number s x =
+    nearest-number (λ k. edgeBox x (vertexAt s k) (endAt s k)) (hit ∞ (vertexAt s 0)) (count s) infinite
+    (λ k. edge-held x (vertexAt s k) (endAt s k))
+
+penetration-number : (s : List Float) (x : Aabb) (v : Vertex) → NumberHit (boxPenetration s x v)
+unfolding boxPenetration
+penetration-number s x v =
+    nearest-number (λ k. pointDistance s (probe x k)) (hit 𝟘 v) 5 zero-number
+    (λ k. number-held binary64 (pointDistance s (probe x k) .distance) (point-number s (probe x k)))
+
+pub box-number : (s : List Float) (x : Aabb) → NumberHit (boxDistance s x)
+unfolding boxDistance result
+box-number s x =
+    let gap = boxGap s x .distance in
+    let deep = boxPenetration s x (boxGap s x .witness) .distance in
+    cond-keeps Number (deep ≺ neg e-9) (penetration-number s x (boxGap s x .witness))
+    (cond-keeps Number (boxHolds s x) (unfold neg ofBits fits isNan in tt)
+    (cond-keeps Number (gap ≼ e-12) zero-number (gap-number s x)))

@@ -1,0 +1,2 @@
+-- Distances of segments are f64.
+pub mod Held

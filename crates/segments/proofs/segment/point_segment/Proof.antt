@@ -1,0 +1,18 @@
+-- `segments::segment::point_segment` meets its contract. Assumes nothing.
+use Rattle.segments.specs.Segments.{closest}
+use borrow.Author.Needs.{needs}
+use Rattle.segments.proofs.segment.point_segment.Statement.{statement}
+use Rattle.segments.proofs.segment.point_segment.Tie as tie
+
+closest-point-requires : tie.Need-closest-point-requires
+closest-point-requires c κs = search needs
+
+nearer-between-requires : tie.Need-nearer-between-requires
+nearer-between-requires c κs = search needs
+
+returns : tie.Need-returns
+unfolding closest
+returns c = rw (c .nearer-between .ensures, c .before .closest-point .ensures)
+
+pub point-segment-spec : {M : Type 1} → statement M
+point-segment-spec = tie.close (tie.spec closest-point-requires nearer-between-requires returns)

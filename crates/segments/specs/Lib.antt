@@ -1,0 +1,3 @@
+-- The closest points of segments, and 01's clip.
+pub mod Segments
+pub mod Clip

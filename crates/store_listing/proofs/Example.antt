@@ -1,0 +1,53 @@
+-- 01's example: records 0 to 5 in chain order, holding section S and the box 25, 30, 0, 5, print two lines. By
+-- computation.
+use Prim.Native.Nat.{ℕ, zero, suc, _/_, _%_}
+use mathlib.Core.Path.{_≡_, refl}
+use mathlib.Core.List.{List, [], _∷_, _++_, flatMap}
+use lib.IntN.{pos}
+use lib.Ieee.{binary64, add, sub, mul, div, neg, lt, le, eq, ofInt, ofBits, toBits}
+use Rattle.arith.specs.Num.{isFinite}
+use Rattle.roots.specs.Roots.{hypot}
+use Rattle.profile.specs.Vertices.{upto, any}
+use Rattle.segments.specs.Segments.{closest, closestPlaces, segments}
+use Rattle.points.specs.Points.{surfaceStep, surfaceNear, crossing, oddCrossings, insideAxisEdge, inSection, pointDistance}
+use Rattle.segments.specs.Clip.{clipSide, clip}
+use Rattle.boxes.specs.Boxes.{edgeBox, wellInside, crossesBox, boxGap, boxPenetration, boxWitness, boxHolds}
+use Rattle.points.specs.Overlap.{result}
+use Rattle.boxes.specs.Boxes.{boxDistance}
+use Rattle.profile.specs.Refusals.{anyOf, refusal}
+use Rattle.section.specs.Answers.{boxAnswer}
+use Rattle.store.specs.Bytes.{littleEndian}
+use Rattle.store.specs.Records.{rightLength, next, kind, number}
+use Rattle.store.specs.Chain.{follow, chain}
+use Rattle.store.specs.Kinds.{rightKind, kindsAnswer}
+use Rattle.store.specs.Store.{vertices, lengthAnswer, sectionAnswer, storeAnswer, chained}
+use Rattle.store_listing.specs.Text.{text, decimalUpTo, decimal, hex, bits}
+use Rattle.store_listing.specs.Listing.{bodyAnswer, fieldText, hitText, bodyLine, sectionLine, refusalLine, acceptedText, listing}
+
+-- the n low bytes of x, the lowest first
+unfoldable pub lowBytes : ℕ → ℕ → List ℕ
+lowBytes zero x = []
+lowBytes (suc n) x = x % 256 ∷ lowBytes n (x / 256)
+
+-- the bytes of a record whose four f64 are whole numbers
+unfoldable pub recordBytes : ℕ → ℕ → List ℕ → List ℕ
+recordBytes next kind numbers =
+    lowBytes 4 next ++ lowBytes 4 kind ++ flatMap (λ n. lowBytes 8 (toBits binary64 (ofInt binary64 (pos n)))) numbers
+
+unfoldable pub example : List ℕ
+example =
+    recordBytes 1 0 (0 ∷ 0 ∷ 0 ∷ 0 ∷ [])
+    ++ recordBytes 2 1 (0 ∷ 10 ∷ 0 ∷ 0 ∷ [])
+    ++ recordBytes 3 1 (20 ∷ 10 ∷ 0 ∷ 0 ∷ [])
+    ++ recordBytes 4 1 (20 ∷ 0 ∷ 0 ∷ 0 ∷ [])
+    ++ recordBytes 5 1 (0 ∷ 0 ∷ 0 ∷ 0 ∷ [])
+    ++ recordBytes 0 3 (25 ∷ 30 ∷ 0 ∷ 5 ∷ [])
+
+pub example-lists : listing example ≡ text "section 4\n5 4014000000000000 4034000000000000 0000000000000000\n"
+unfolding add sub mul div neg lt le eq ofInt ofBits toBits isFinite hypot upto any closest closestPlaces segments
+    surfaceStep surfaceNear crossing oddCrossings insideAxisEdge inSection pointDistance clipSide clip edgeBox
+    wellInside crossesBox boxGap boxPenetration boxWitness boxHolds result boxDistance anyOf refusal
+    boxAnswer littleEndian rightLength next kind number follow chain rightKind kindsAnswer vertices
+    lengthAnswer sectionAnswer storeAnswer chained text decimalUpTo decimal hex bits bodyAnswer fieldText hitText bodyLine sectionLine refusalLine
+    acceptedText listing lowBytes recordBytes example flatMap
+example-lists = refl

@@ -1,0 +1,2 @@
+-- 01's verdict.
+pub mod Verdicts

@@ -1,0 +1,90 @@
+// The verdicts: collision exactly when distance + 1e-9 < clearance.
+ghost use mathlib.Core.Path.{_≡_};
+ghost use Rattle.profile.specs.Replies.{value};
+ghost use Rattle.bodies.specs.declared.shapes.Body.the-variants as body·kinds;
+ghost use Rattle.verdicts.specs.Verdicts.{told, collides, bodyVerdict, convexVerdict};
+use super::shapes::Verdict;
+use bands::Cylinder;
+use bands::axis_of;
+use bodies::Body;
+use boxes::box_distance;
+use convex::convex_distance;
+use cylinders::cylinder_distance;
+use cylinders::cylinder_refusal;
+use points::sphere_distance;
+use profile::Aabb;
+use profile::Sphere;
+use profile::box_refusal;
+use profile::convex_refusal;
+use profile::sphere_refusal;
+
+// A distance this much below the clearance is still a touch.
+const TOUCH_SLACK: f64 = 1e-9;
+
+fn judged(distance: f64, clearance: f64) -> Verdict
+    ensures { λ r. ⌜ told r ≡ value (collides distance clearance) ⌝ }
+{
+    if distance + TOUCH_SLACK < clearance {
+        return Verdict::Collision;
+    }
+    Verdict::Clear
+}
+
+pub fn verdict_sphere(section: &[f64], sphere: Sphere, clearance: f64) -> Verdict
+    ensures { λ r. ⌜ told r ≡ bodyVerdict (now (section .entry)) (body·kinds.Sphere sphere) clearance ⌝ }
+{
+    let extra = [clearance];
+    let number = sphere_refusal(section, sphere, &extra[..]);
+    if number != 0 {
+        return Verdict::Refused(number);
+    }
+    judged(sphere_distance(section, sphere).distance, clearance)
+}
+
+pub fn verdict_box(section: &[f64], x: Aabb, clearance: f64) -> Verdict
+    ensures { λ r. ⌜ told r ≡ bodyVerdict (now (section .entry)) (body·kinds.Box x) clearance ⌝ }
+{
+    let extra = [clearance];
+    let number = box_refusal(section, x, &extra[..]);
+    if number != 0 {
+        return Verdict::Refused(number);
+    }
+    judged(box_distance(section, x).distance, clearance)
+}
+
+pub fn verdict_cylinder(section: &[f64], cylinder: Cylinder, clearance: f64) -> Verdict
+    ensures { λ r. ⌜ told r ≡ bodyVerdict (now (section .entry)) (body·kinds.Cylinder cylinder) clearance ⌝ }
+{
+    let axis = axis_of(cylinder);
+    let extra = [clearance];
+    let number = cylinder_refusal(section, cylinder, axis, &extra[..]);
+    if number != 0 {
+        return Verdict::Refused(number);
+    }
+    judged(
+        cylinder_distance(section, cylinder, axis).hit.distance,
+        clearance,
+    )
+}
+
+// The verdict on a body, whatever its kind.
+pub fn verdict_body(section: &[f64], body: Body, clearance: f64) -> Verdict
+    ensures { λ r. ⌜ told r ≡ bodyVerdict (now (section .entry)) body clearance ⌝ }
+{
+    match body {
+        Body::Sphere(sphere) => verdict_sphere(section, sphere, clearance),
+        Body::Box(x) => verdict_box(section, x, clearance),
+        Body::Cylinder(cylinder) => verdict_cylinder(section, cylinder, clearance),
+    }
+}
+
+pub fn verdict_convex(section: &[f64], convex: &[f64], clearance: f64) -> Verdict
+    ensures { λ r. ⌜ told r ≡ convexVerdict (now (convex .entry)) (now (section .entry)) clearance ⌝ }
+{
+    let extra = [clearance];
+    let number = convex_refusal(convex, section, &extra[..]);
+    if number != 0 {
+        return Verdict::Refused(number);
+    }
+    judged(convex_distance(convex, section).distance, clearance)
+}
