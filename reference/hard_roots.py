@@ -1,6 +1,6 @@
 #!/usr/bin/env python3
-# Hard cases for sqrt and hypot with their answers, by whole numbers only (math.isqrt and comparing squares).
-# Usage: hard_roots.py LIST ANSWERS
+"""usage: hard_roots.py LIST ANSWERS
+Writes hard cases for sqrt and hypot and their answers, by whole numbers only (math.isqrt and comparing squares)."""
 # A finite f64 is a whole multiple of 2^-1074; "units" below are those multiples.
 import math
 import sys
@@ -268,11 +268,11 @@ def canonical(bits):
     return NAN if is_nan(bits) else bits
 
 
-def main():
+def main(list_path, answers_path):
     rnd = Random(0x6A6F726768697061)
     roots = sorted({canonical(x) for x in sqrt_cases(rnd)})
     pairs = sorted({(canonical(a), canonical(b)) for a, b in hypot_cases(rnd)})
-    with open(sys.argv[1], "w") as listing, open(sys.argv[2], "w") as answers:
+    with open(list_path, "w") as listing, open(answers_path, "w") as answers:
         for a, b in pairs:
             listing.write(f"h {a:016x} {b:016x}\n")
             answers.write(f"{hypot(a, b):016x}\n")
@@ -283,6 +283,11 @@ def main():
 
 
 if __name__ == "__main__":
-    if len(sys.argv) != 3:
-        sys.exit("usage: hard_roots.py LIST ANSWERS")
-    main()
+    words = sys.argv[1:]
+    if "--help" in words:
+        print(__doc__)
+    elif len(words) == 2 and not any(word.startswith("-") for word in words):
+        main(*words)
+    else:
+        print(__doc__, file=sys.stderr)
+        sys.exit(2)

@@ -1,10 +1,8 @@
 #!/usr/bin/env python3
-"""Stores to list: the example of document 01, others, and damaged ones.
-
-make_stores.py DIR                   each as DIR/NAME.store
-make_stores.py DIR --gate PROGRAM    all of them as DIR/stdin, each behind its length in bytes (u32, little-endian), and
-                                     what PROGRAM writes for each, one after the other, as DIR/stdout
-"""
+"""usage: make_stores.py DIR                   each as DIR/NAME.store
+       make_stores.py DIR --gate PROGRAM    all of them as DIR/stdin, each behind its length in bytes (u32, little-endian),
+                                            and what PROGRAM writes for each, one after the other, as DIR/stdout
+Writes stores to list: the example of document 01, others, and damaged ones."""
 import struct
 import subprocess
 import sys
@@ -108,10 +106,20 @@ def gate(directory, program):
             expected.write(subprocess.run([program], input=store, stdout=subprocess.PIPE, check=True).stdout)
 
 
+def each(directory):
+    for name, store in STORES.items():
+        with open(f"{directory}/{name}.store", "wb") as f:
+            f.write(store)
+
+
 if __name__ == "__main__":
-    if sys.argv[2:3] == ["--gate"]:
-        gate(sys.argv[1], sys.argv[3])
-    else:
-        for name, store in STORES.items():
-            with open(f"{sys.argv[1]}/{name}.store", "wb") as f:
-                f.write(store)
+    match sys.argv[1:]:
+        case words if "--help" in words:
+            print(__doc__)
+        case [directory] if not directory.startswith("-"):
+            each(directory)
+        case [directory, "--gate", program] if not directory.startswith("-"):
+            gate(directory, program)
+        case _:
+            print(__doc__, file=sys.stderr)
+            sys.exit(2)

@@ -1,4 +1,4 @@
--- IEEE 754's operations at binary64, each rounded once, and the constants of document 01. Assumes nothing.
+-- IEEE 754's operations at binary64, each rounded once, and the constants of document 01.
 use mathlib.Core.Bool.{Bool, false}
 use lib.Ieee.{Float, inf, binary64, ofBits, add, sub, mul, div, lt, le}
 

@@ -1,4 +1,4 @@
--- What a reader has to believe of the numbers, beside the roots of crate roots. Assumes nothing.
+-- What a reader has to believe of the numbers, beside the roots of crate roots.
 pub mod F64
 pub mod Num
 pub mod Vector

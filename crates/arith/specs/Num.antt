@@ -1,4 +1,4 @@
--- Least, greatest, clamp, magnitude and finiteness, as document 01 has them. Assumes nothing.
+-- Least, greatest, clamp, magnitude and finiteness, as document 01 has them.
 use mathlib.Core.Bool.{Bool, true, false, cond}
 use lib.Ieee.{Float, nan, inf, fin, neg}
 use Rattle.arith.specs.F64.{_≺_, _≼_, 𝟘}

@@ -1,4 +1,4 @@
--- Vectors of three f64, by component. Assumes nothing.
+-- Vectors of three f64, by component.
 use lib.Ieee.{Float, binary64}
 use Rattle.arith.specs.F64.{_⊖_, _⊗_}
 use Rattle.roots.specs.Roots.{hypot}

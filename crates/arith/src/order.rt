@@ -1,6 +1,5 @@
 // Least, greatest, clamp, magnitude and finiteness of f64.
 ghost use mathlib.Core.Path.{_≡_};
-ghost use lib.Ieee as ieee;
 ghost use Rattle.arith.specs.F64.{∞};
 ghost use Rattle.arith.specs.Num as num;
 

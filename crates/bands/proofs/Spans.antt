@@ -19,20 +19,20 @@ use Rattle.arith.proofs.Laws.Monotone.{keySize, add-key-mono, sub-key-mono}
 use Rattle.arith.proofs.Laws.SizedOrder.{below-key, hypot-not-more, hypot-not-negative, max-finite-key, not-below-key}
 use Rattle.arith.proofs.Laws.Sizes.{Finite, Given, K, M, add-finite, cond-keeps, finite-given, hypot-given, max-keeps}
 use Rattle.arith.proofs.Laws.Sizes.{sub-finite, zero-finite, zero-key}
-use Rattle.bands.specs.Band.{spanAt, toward0}
+use Rattle.bands.specs.Band.{spanAt, closestToZero}
 use Rattle.bands.specs.declared.shapes.RadialBand.{RadialBand}
 use Rattle.bands.specs.declared.shapes.Span.{Span}
 use Rattle.bands.proofs.Limit.{InLimit}
 
 -- ---- the number of lo..hi closest to 0
-toward0-keeps : (P : Float → Type 0) {x y : Float} → P 𝟘 → P x → P y → P (toward0 x y)
+toward0-keeps : (P : Float → Type 0) {x y : Float} → P 𝟘 → P x → P y → P (closestToZero x y)
 toward0-keeps P {x} {y} Z X Y = cond-keeps P (𝟘 ≺ x) X (cond-keeps P (y ≺ 𝟘) Y Z)
 
 -- it is no farther from 0 than one of the two ends
 abbrev NoFarther : Float → Float → Float → Type 0
 NoFarther x y z = (magnitude binary64 z ≤ magnitude binary64 x) ⊎ (magnitude binary64 z ≤ magnitude binary64 y)
 
-toward0-magnitude : (x y : Float) → NoFarther x y (toward0 x y)
+toward0-magnitude : (x y : Float) → NoFarther x y (closestToZero x y)
 toward0-magnitude x y = toward0-keeps (NoFarther x y) (inl least) (inl (le-refl _)) (inr (le-refl _))
   where
     least : magnitude binary64 𝟘 ≤ magnitude binary64 x
@@ -43,7 +43,7 @@ abbrev gap : Float → Float → ℕ
 gap lo hi = maxℕ (K lo - M) (M - K hi)
 
 toward0-size : {i j : ℕ} {lo hi : Float} → Finite i lo → Finite j hi → K lo ≤ K hi
-    → keySize binary64 (toward0 lo hi) ≡ gap lo hi
+    → keySize binary64 (closestToZero lo hi) ≡ gap lo hi
 unfolding keySize
 toward0-size {lo = lo} {hi = hi} L H h =
     let o = zero-finite 0 in
@@ -112,10 +112,10 @@ module _ {b : RadialBand} (B : InLimit b) where
     y1 : Finite 21 (high ρ)
     y1 = add-finite (B .yc) P tt
 
-    X : Given 20 (toward0 (b .x0) (b .x1))
+    X : Given 20 (closestToZero (b .x0) (b .x1))
     X = toward0-keeps (Given 20) (finite-given (zero-finite 20)) (B .x0) (B .x1)
 
-    Y : Finite 21 (toward0 (low ρ) (high ρ))
+    Y : Finite 21 (closestToZero (low ρ) (high ρ))
     Y = toward0-keeps (Finite 21) (zero-finite 21) y0 y1
 
     at : {x y : Float} → Given 20 x → Finite 21 y → Finite 22 (hypot binary64 x y)
@@ -142,11 +142,11 @@ module _ {b : RadialBand} (B : InLimit b) where
     unfolding spanAt
     span-order = go (toward0-magnitude (b .x0) (b .x1)) (toward0-magnitude (low ρ) (high ρ))
       where
-        to : {x y : Float} → Given 20 x → Finite 21 y → magnitude binary64 (toward0 (b .x0) (b .x1)) ≤ magnitude binary64 x
-            → magnitude binary64 (toward0 (low ρ) (high ρ)) ≤ magnitude binary64 y → K (spanAt b ρ .lo) ≤ far x y
+        to : {x y : Float} → Given 20 x → Finite 21 y → magnitude binary64 (closestToZero (b .x0) (b .x1)) ≤ magnitude binary64 x
+            → magnitude binary64 (closestToZero (low ρ) (high ρ)) ≤ magnitude binary64 y → K (spanAt b ρ .lo) ≤ far x y
         to X′ Y′ = hypot-not-more X (finite-given Y) X′ (finite-given Y′)
 
-        go : NoFarther (b .x0) (b .x1) (toward0 (b .x0) (b .x1)) → NoFarther (low ρ) (high ρ) (toward0 (low ρ) (high ρ))
+        go : NoFarther (b .x0) (b .x1) (closestToZero (b .x0) (b .x1)) → NoFarther (low ρ) (high ρ) (closestToZero (low ρ) (high ρ))
             → K (spanAt b ρ .lo) ≤ K (spanAt b ρ .hi)
         go (inl p) (inl q) = omega (arith, hi-key, to (B .x0) y0 p q)
         go (inl p) (inr q) = omega (arith, hi-key, to (B .x0) y1 p q)

@@ -1,4 +1,4 @@
--- 01's axis test. Assumes nothing.
+-- 01's axis test.
 use mathlib.Core.Bool.{_&&_, cond}
 use lib.Ieee.{Float}
 use Rattle.arith.specs.F64.{_⊖_, _⊘_, _≼_, 𝟘, 𝟙, e-8}
@@ -10,8 +10,8 @@ use Rattle.bands.specs.declared.shapes.Axis.{Axis}
 use Rattle.bands.specs.declared.shapes.Axis.the-variants.{Axial, Radial, Neither}
 
 -- 01's `axis_dir` divides by length, by its reciprocal; length 0 counts as along z
-unfoldable pub direction : Cylinder → Vec3
-direction c =
+unfoldable pub axisDir : Cylinder → Vec3
+axisDir c =
     let d = subtract (c .b) (c .a) in
     let l = norm d in
     cond (l ≼ 𝟘) (vec 𝟘 𝟘 𝟙) (scaleBy d (𝟙 ⊘ l))
@@ -19,6 +19,6 @@ direction c =
 -- |dir z| ≥ 1 - 1e-8 is axial; |dir z| ≤ 1e-8 with |dir x| ≥ 1 - 1e-8 is radial
 unfoldable pub axis : Cylinder → Axis
 axis c =
-    let d = direction c in
+    let d = axisDir c in
     let most = 𝟙 ⊖ e-8 in
     cond (most ≼ abs (d .z)) Axial (cond ((abs (d .z) ≼ e-8) && (most ≼ abs (d .x))) Radial Neither)

@@ -1,13 +1,17 @@
--- The box of a cylinder along the spindle, and 01's band of one across it: half width and span. Assumes nothing.
+-- The box of a cylinder along the spindle, and 01's band of one across it: half width and span.
 use mathlib.Core.Bool.{cond}
 use lib.Ieee.{Float, binary64}
 use Rattle.arith.specs.F64.{_⊕_, _⊖_, _⊗_, _≺_, _≼_, 𝟘, ½}
 use Rattle.arith.specs.Num.{min, max}
 use Rattle.roots.specs.Roots.{sqrt, hypot}
+use Rattle.arith.specs.declared.vector.Vec3.{Vec3}
 use Rattle.profile.specs.declared.shapes.Aabb.{Aabb}
 use Rattle.bands.specs.declared.shapes.Cylinder.{Cylinder}
 use Rattle.bands.specs.declared.shapes.RadialBand.{RadialBand}
 use Rattle.bands.specs.declared.shapes.Span.{Span}
+
+abbrev pub bar : Vec3 → Vec3 → Float → Cylinder
+bar a b radius = record { a = a; b = b; radius = radius }
 
 abbrev pub mean : Float → Float → Float
 mean a b = (a ⊕ b) ⊗ ½
@@ -45,15 +49,15 @@ abbrev pub span : Float → Float → Span
 span lo hi = record { lo = lo; hi = hi }
 
 -- of the numbers from lo to hi the one closest to 0
-abbrev pub toward0 : Float → Float → Float
-toward0 lo hi = cond (𝟘 ≺ lo) lo (cond (hi ≺ 𝟘) hi 𝟘)
+abbrev pub closestToZero : Float → Float → Float
+closestToZero lo hi = cond (𝟘 ≺ lo) lo (cond (hi ≺ 𝟘) hi 𝟘)
 
 -- the least and the greatest radius of the rectangle x0..x1, y0..y1
-abbrev pub rectangleSpan : Float → Float → Float → Float → Span
-rectangleSpan x0 x1 y0 y1 =
+abbrev pub radiusSpan : Float → Float → Float → Float → Span
+radiusSpan x0 x1 y0 y1 =
     let h = hypot binary64 in
-    span (h (toward0 x0 x1) (toward0 y0 y1)) (max (max (max (h x0 y0) (h x0 y1)) (h x1 y0)) (h x1 y1))
+    span (h (closestToZero x0 x1) (closestToZero y0 y1)) (max (max (max (h x0 y0) (h x0 y1)) (h x1 y0)) (h x1 y1))
 
 -- 01's span: of the rectangle x0..x1, yc ± half width
 unfoldable pub spanAt : RadialBand → Float → Span
-spanAt b ρ = rectangleSpan (b .x0) (b .x1) (b .yc ⊖ ρ) (b .yc ⊕ ρ)
+spanAt b ρ = radiusSpan (b .x0) (b .x1) (b .yc ⊖ ρ) (b .yc ⊕ ρ)

@@ -2,7 +2,7 @@
 ghost use mathlib.Core.Path.{_≡_};
 ghost use Rattle.arith.specs.F64.{_⊘_, 𝟙};
 ghost use Rattle.arith.specs.Vector.{scaleBy};
-ghost use Rattle.bands.specs.Axis.{direction, axis};
+ghost use Rattle.bands.specs.Axis.{axisDir, axis};
 use super::shapes::Axis;
 use super::shapes::Cylinder;
 use arith::Vec3;
@@ -16,7 +16,7 @@ fn unit(delta: Vec3, len: f64) -> Vec3
 
 // A cylinder of length 0 counts as along z.
 fn axis_dir(c: Cylinder) -> Vec3
-    ensures { λ r. ⌜ r ≡ direction c ⌝ }
+    ensures { λ r. ⌜ r ≡ axisDir c ⌝ }
 {
     let a = c.a;
     let b = c.b;

@@ -4,7 +4,7 @@ ghost use mathlib.Core.Bool.{cond};
 ghost use lib.Ieee.{neg};
 ghost use Rattle.arith.specs.F64.{_≼_};
 ghost use Rattle.arith.specs.Num.{min, clamp};
-ghost use Rattle.bands.specs.Band.{axialBox, bandOf, halfWidth, rectangleSpan, span, spanAt, toward0};
+ghost use Rattle.bands.specs.Band.{axialBox, bandOf, halfWidth, radiusSpan, span, spanAt, closestToZero};
 use super::shapes::Cylinder;
 use super::shapes::RadialBand;
 use super::shapes::Span;
@@ -27,7 +27,7 @@ pub fn axial_box(c: Cylinder) -> Aabb
 
 // Of the numbers from lo to hi the one closest to 0.
 fn closest_to_zero(lo: f64, hi: f64) -> f64
-    ensures { λ r. ⌜ r ≡ toward0 lo hi ⌝ }
+    ensures { λ r. ⌜ r ≡ closestToZero lo hi ⌝ }
 {
     if 0.0 < lo {
         return lo;
@@ -45,7 +45,7 @@ fn farthest_from_zero(lo: f64, hi: f64) -> f64
 // The greatest radius of the four corners. Where the ends are in order one corner has it; others are
 // left to the definition.
 fn greatest_radius(x0: f64, x1: f64, y0: f64, y1: f64) -> f64
-    ensures { λ r. ⌜ r ≡ rectangleSpan x0 x1 y0 y1 .hi ⌝ }
+    ensures { λ r. ⌜ r ≡ radiusSpan x0 x1 y0 y1 .hi ⌝ }
 {
     if x0 <= x1 {
         if y0 <= y1 {
@@ -59,7 +59,7 @@ fn greatest_radius(x0: f64, x1: f64, y0: f64, y1: f64) -> f64
 
 // The least and the greatest radius of the rectangle x0..x1, y0..y1.
 fn radius_span(x0: f64, x1: f64, y0: f64, y1: f64) -> Span
-    ensures { λ r. ⌜ r ≡ rectangleSpan x0 x1 y0 y1 ⌝ }
+    ensures { λ r. ⌜ r ≡ radiusSpan x0 x1 y0 y1 ⌝ }
 {
     Span {
         lo: arith::hypot(closest_to_zero(x0, x1), closest_to_zero(y0, y1)),

@@ -1,4 +1,4 @@
--- 01's clip (Liang-Barsky) and box distance. Assumes nothing.
+-- 01's clip (Liang-Barsky) and box distance.
 use Prim.Native.Nat.{ℕ, zero, suc}
 use mathlib.Core.Bool.{Bool, _&&_, _||_, cond}
 use mathlib.Core.List.{List, [], _∷_}
@@ -8,7 +8,7 @@ use Rattle.profile.specs.Vertices.{vertex, hit, count, vertexAt, endAt, upto, a
 use Rattle.segments.specs.Segments.{along, segments}
 use Rattle.segments.specs.Clip.{clip}
 use Rattle.points.specs.Points.{pointDistance}
-use Rattle.points.specs.Overlap.{result}
+use Rattle.points.specs.Overlap.{resultOf}
 use Rattle.profile.specs.declared.shapes.Aabb.{Aabb}
 use Rattle.profile.specs.declared.shapes.Vertex.{Vertex}
 use Rattle.profile.specs.declared.shapes.CollisionHit.{CollisionHit}
@@ -28,18 +28,18 @@ edgeBox x a b =
     (nearestOf (λ k. segments a b (vertexAt (corners x) k) (endAt (corners x) k)) (hit ∞ a) 4)
 
 -- more than 1e-9 inside every side
-unfoldable pub wellInside : Aabb → Vertex → Bool
-wellInside x v =
+unfoldable pub strictlyInsideAabb : Aabb → Vertex → Bool
+strictlyInsideAabb x v =
     (x .z0 ⊕ e-9 ≺ v .z) && ((v .z ≺ x .z1 ⊖ e-9) && ((x .r0 ⊕ e-9 ≺ v .r) && (v .r ≺ x .r1 ⊖ e-9)))
 
 abbrev pub middle : Vertex → Vertex → Vertex
 middle a b = vertex ((a .z ⊕ b .z) ⊗ ½) ((a .r ⊕ b .r) ⊗ ½)
 
 -- the edge's clipped middle lies so
-unfoldable pub crossesBox : Aabb → Vertex → Vertex → Bool
-crossesBox x a b =
+unfoldable pub segmentThroughInterior : Aabb → Vertex → Vertex → Bool
+segmentThroughInterior x a b =
     let c = clip x a b in
-    c .any && wellInside x (middle (along a b (c .t0)) (along a b (c .t1)))
+    c .any && strictlyInsideAabb x (middle (along a b (c .t0)) (along a b (c .t1)))
 
 -- centre, (z0,r0), (z1,r0), (z1,r1), (z0,r1)
 abbrev pub probe : Aabb → ℕ → Vertex
@@ -56,17 +56,17 @@ boxPenetration s x witness = nearestOf (λ k. pointDistance s (probe x k)) (hit 
 
 -- the last vertex well inside takes over the witness
 unfoldable pub boxWitness : List Float → Aabb → Vertex → Vertex
-boxWitness s x witness = upto (λ k at. cond (wellInside x (vertexAt s k)) (vertexAt s k) at) witness (count s)
+boxWitness s x witness = upto (λ k at. cond (strictlyInsideAabb x (vertexAt s k)) (vertexAt s k) at) witness (count s)
 
 -- a vertex, or an edge's clipped middle, lies well inside
 unfoldable pub boxHolds : List Float → Aabb → Bool
 boxHolds s x =
-    any (λ k. wellInside x (vertexAt s k)) (count s)
-    || any (λ k. crossesBox x (vertexAt s k) (endAt s k)) (count s)
+    any (λ k. strictlyInsideAabb x (vertexAt s k)) (count s)
+    || any (λ k. segmentThroughInterior x (vertexAt s k) (endAt s k)) (count s)
 
 -- 01's box distance
 unfoldable pub boxDistance : List Float → Aabb → CollisionHit
 boxDistance s x =
     let gap = boxGap s x in
     let deep = boxPenetration s x (gap .witness) in
-    hit (result (deep .distance) (boxHolds s x) (gap .distance)) (boxWitness s x (deep .witness))
+    hit (resultOf (deep .distance) (boxHolds s x) (gap .distance)) (boxWitness s x (deep .witness))

@@ -6,7 +6,7 @@ ghost use Prim.Native.Nat.{_<_, _≤_};
 ghost use Rattle.arith.specs.F64.{_≺_, e-9};
 ghost use Rattle.profile.specs.Vertices.{count, vertexAt, endAt, any, nearer, nearestOf};
 ghost use Rattle.segments.specs.Segments.{segments};
-ghost use Rattle.boxes.specs.Boxes.{corners, edgeBox, wellInside, middle, crossesBox};
+ghost use Rattle.boxes.specs.Boxes.{corners, edgeBox, strictlyInsideAabb, middle, segmentThroughInterior};
 ghost use Rattle.boxes.specs.Boxes.{boxGap, boxPenetration, boxWitness, boxHolds, boxDistance};
 use points::deeper_at;
 use points::result_of;
@@ -53,7 +53,7 @@ pub fn segment_aabb_distance(a: Vertex, b: Vertex, x: Aabb, best: CollisionHit) 
 }
 
 pub fn strictly_inside_aabb(v: Vertex, x: Aabb) -> bool
-    ensures { λ r. ⌜ r ≡ wellInside x v ⌝ }
+    ensures { λ r. ⌜ r ≡ strictlyInsideAabb x v ⌝ }
 {
     v.z > x.z0 + INTERIOR
         && (v.z < x.z1 - INTERIOR && (v.r > x.r0 + INTERIOR && v.r < x.r1 - INTERIOR))
@@ -69,7 +69,7 @@ fn middle_of(a: Vertex, b: Vertex) -> Vertex
 }
 
 pub fn segment_through_interior(a: Vertex, b: Vertex, x: Aabb) -> bool
-    ensures { λ r. ⌜ r ≡ crossesBox x a b ⌝ }
+    ensures { λ r. ⌜ r ≡ segmentThroughInterior x a b ⌝ }
 {
     let c = clip_segment(a, b, x);
     let any = c.any;
@@ -130,7 +130,7 @@ fn box_penetration(s: &[f64], x: Aabb, witness: Vertex) -> CollisionHit
 // Vertex k, if it lies well inside, takes over the witness.
 fn witness_at(s: &[f64], x: Aabb, k: usize, at: Vertex) -> Vertex
     requires { ⌜ k < count (now s) ⌝ }
-    ensures { λ r. ⌜ r ≡ cond (wellInside x (vertexAt (now (s .entry)) k)) (vertexAt (now (s .entry)) k) at ⌝ }
+    ensures { λ r. ⌜ r ≡ cond (strictlyInsideAabb x (vertexAt (now (s .entry)) k)) (vertexAt (now (s .entry)) k) at ⌝ }
 {
     let v = vertex_at(s, k);
     if strictly_inside_aabb(v, x) { v } else { at }
@@ -151,13 +151,13 @@ fn box_witness(s: &[f64], x: Aabb, witness: Vertex) -> Vertex
 
 fn vertex_inside(s: &[f64], x: Aabb, k: usize) -> bool
     requires { ⌜ k < count (now s) ⌝ }
-    ensures { λ r. ⌜ r ≡ wellInside x (vertexAt (now (s .entry)) k) ⌝ }
+    ensures { λ r. ⌜ r ≡ strictlyInsideAabb x (vertexAt (now (s .entry)) k) ⌝ }
 {
     strictly_inside_aabb(vertex_at(s, k), x)
 }
 
 fn any_vertex_inside(s: &[f64], x: Aabb) -> bool
-    ensures { λ r. ⌜ r ≡ any (λ k. wellInside x (vertexAt (now (s .entry)) k)) (count (now (s .entry))) ⌝ }
+    ensures { λ r. ⌜ r ≡ any (λ k. strictlyInsideAabb x (vertexAt (now (s .entry)) k)) (count (now (s .entry))) ⌝ }
 {
     let n = s.len() / 2;
     let mut k = 0;
@@ -172,13 +172,13 @@ fn any_vertex_inside(s: &[f64], x: Aabb) -> bool
 
 fn edge_through(s: &[f64], x: Aabb, k: usize) -> bool
     requires { ⌜ k < count (now s) ⌝ }
-    ensures { λ r. ⌜ r ≡ crossesBox x (vertexAt (now (s .entry)) k) (endAt (now (s .entry)) k) ⌝ }
+    ensures { λ r. ⌜ r ≡ segmentThroughInterior x (vertexAt (now (s .entry)) k) (endAt (now (s .entry)) k) ⌝ }
 {
     segment_through_interior(vertex_at(s, k), end_at(s, k), x)
 }
 
 fn any_edge_through(s: &[f64], x: Aabb) -> bool
-    ensures { λ r. ⌜ r ≡ any (λ k. crossesBox x (vertexAt (now (s .entry)) k) (endAt (now (s .entry)) k)) (count (now (s .entry))) ⌝ }
+    ensures { λ r. ⌜ r ≡ any (λ k. segmentThroughInterior x (vertexAt (now (s .entry)) k) (endAt (now (s .entry)) k)) (count (now (s .entry))) ⌝ }
 {
     let n = s.len() / 2;
     let mut k = 0;

@@ -1,4 +1,4 @@
--- 01's builders: which points are kept, and what the lent space then holds. Assumes nothing.
+-- 01's builders: which points are kept, and what the lent space then holds.
 use Prim.Native.Nat.{ℕ, _-_}
 use mathlib.Core.Bool.{Bool, _&&_, cond}
 use mathlib.Core.List.{List, [], _∷_, _++_}

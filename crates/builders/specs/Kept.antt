@@ -19,13 +19,13 @@ told (Numbers n) = value n
 told (Refused n) = turned-down n
 
 -- a radius below -1e-9
-abbrev pub belowAxis : List Float → Bool
-belowAxis s = any (λ k. vertexAt s k .r ≺ neg e-9) (count s)
+abbrev pub anyBelowAxis : List Float → Bool
+anyBelowAxis s = any (λ k. vertexAt s k .r ≺ neg e-9) (count s)
 
 -- a radius below -1e-9, room for two points more, three kept
 abbrev pub sectionOwn : List Float → List Float → List Test
 sectionOwn s space =
-    (6 when belowAxis s) ∷ (7 when ltb (length space) (2 * (count s + 2))) ∷ (8 when fewer 3 (sectionOf s)) ∷ []
+    (6 when anyBelowAxis s) ∷ (7 when ltb (length space) (2 * (count s + 2))) ∷ (8 when fewer 3 (sectionOf s)) ∷ []
 
 -- 2 to 254 section points
 abbrev pub sectionTests : List Float → List Float → List Test

@@ -1,4 +1,4 @@
--- What the functions below the entry points compute on the way to the builders. Assumes nothing.
+-- What the functions below the entry points compute on the way to the builders.
 use Prim.Native.Nat.{ℕ, _+_, _*_}
 use mathlib.Core.Bool.{Bool, _&&_, cond}
 use mathlib.Core.List.{List, []}
@@ -17,11 +17,11 @@ use Rattle.builders.specs.declared.shapes.Kept.{Kept}
 use Rattle.builders.specs.declared.shapes.Kept.the-variants.{Numbers, Refused}
 
 -- a builder's point k: a section's radius is raised to 0, a polygon's is not
-abbrev pub pointOf : Bool → List Float → ℕ → Vertex
-pointOf raise s k = cond raise (raised (vertexAt s k)) (vertexAt s k)
+abbrev pub pointAt : Bool → List Float → ℕ → Vertex
+pointAt raise s k = cond raise (raised (vertexAt s k)) (vertexAt s k)
 
 unfoldable pub keptPoints : Bool → List Float → ℕ → List Float
-keptPoints raise s n = upto (λ k. keep (pointOf raise s k)) [] n
+keptPoints raise s n = upto (λ k. keep (pointAt raise s k)) [] n
 
 -- the last vertex that is kept, (0, 0) while there is none, and how many are
 abbrev pub run : Vertex → ℕ → Run
@@ -31,22 +31,22 @@ abbrev pub runOf : List Float → Run
 runOf kept = run (cond (ltb 0 (count kept)) (lastOf kept) (vertex 𝟘 𝟘)) (count kept)
 
 -- v is within 1e-12 of the last kept vertex
-abbrev pub repeats : Run → Vertex → Bool
-repeats b v = ltb 0 (b .count) && samePoint (b .last) v
+abbrev pub isRepeat : Run → Vertex → Bool
+isRepeat b v = ltb 0 (b .count) && samePoint (b .last) v
 
 unfoldable pub pushed : Vertex → Run → Run
-pushed v b = cond (repeats b v) b (run v (b .count + 1))
+pushed v b = cond (isRepeat b v) b (run v (b .count + 1))
 
 -- v is written in place k, below the limit
 unfoldable pub written : ℕ → ℕ → Vertex → List Float → List Float
 written limit k v space = cond (ltb k limit) (set (set space (k * 2) (v .z)) (k * 2 + 1) (v .r)) space
 
 unfoldable pub pushedSpace : ℕ → Vertex → Run → List Float → List Float
-pushedSpace limit v b space = cond (repeats b v) space (written limit (b .count) v space)
+pushedSpace limit v b space = cond (isRepeat b v) space (written limit (b .count) v space)
 
 -- the first of the kept vertices, up to the limit, in the front of the space
-abbrev pub upTo : ℕ → List Float → List Float → List Float
-upTo limit kept space = filled (take (limit * 2) kept) space
+abbrev pub frontKept : ℕ → List Float → List Float → List Float
+frontKept limit kept space = filled (take (limit * 2) kept) space
 
 -- number 8, or how many numbers are kept
 unfoldable pub threeKept : ℕ → Kept

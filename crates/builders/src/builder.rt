@@ -7,8 +7,8 @@ ghost use lib.ListN.{length};
 ghost use Rattle.arith.specs.F64.{_≺_, e-9};
 ghost use Rattle.profile.specs.Vertices.{count, vertexAt, any};
 ghost use Rattle.builders.specs.Builder as builder;
-ghost use Rattle.builders.specs.Kept.{told, belowAxis, sectionAnswer, polygonAnswer, sectionKept, polygonKept};
-ghost use Rattle.builders.specs.Steps.{repeats, pushed, pushedSpace, written, pointOf, keptPoints, runOf, upTo, threeKept, numbersOf, Builds};
+ghost use Rattle.builders.specs.Kept.{told, anyBelowAxis, sectionAnswer, polygonAnswer, sectionKept, polygonKept};
+ghost use Rattle.builders.specs.Steps.{isRepeat, pushed, pushedSpace, written, pointAt, keptPoints, runOf, frontKept, threeKept, numbersOf, Builds};
 use super::shapes::Kept;
 use profile::Vertex;
 use profile::list_refusal;
@@ -29,7 +29,7 @@ fn same_point(a: Vertex, b: Vertex) -> bool
 // Point k of the list, a negative radius raised to 0 for a section.
 fn point_at(points: &[f64], k: usize, raise: bool) -> Vertex
     requires { ⌜ k < count (now points) ⌝ }
-    ensures { λ r. ⌜ r ≡ pointOf raise (now (points .entry)) k ⌝ }
+    ensures { λ r. ⌜ r ≡ pointAt raise (now (points .entry)) k ⌝ }
 {
     let v = vertex_at(points, k);
     if raise {
@@ -54,7 +54,7 @@ fn put(space: &mut [f64], limit: usize, at: usize, v: Vertex)
 }
 
 fn is_repeat(run: Run, v: Vertex) -> bool
-    ensures { λ r. ⌜ r ≡ repeats run v ⌝ }
+    ensures { λ r. ⌜ r ≡ isRepeat run v ⌝ }
 {
     0 < run.count && same_point(run.last, v)
 }
@@ -81,7 +81,7 @@ fn push_points(points: &[f64], raise: bool, space: &mut [f64], limit: usize) -> 
     ensures { λ r. ⌜
         (r ≡ runOf (keptPoints raise (now (points .entry)) (count (now (points .entry)))))
         × (now (space .exit)
-        ≡ upTo limit (keptPoints raise (now (points .entry)) (count (now (points .entry)))) (now (space .entry)))
+        ≡ frontKept limit (keptPoints raise (now (points .entry)) (count (now (points .entry)))) (now (space .entry)))
         ⌝ }
 {
     let n = points.len() / 2;
@@ -103,7 +103,7 @@ fn push_section(points: &[f64], space: &mut [f64], limit: usize) -> usize
     requires { ⌜ (2 ≤ count (now points)) × (count (now points) ≤ 254) × (limit * 2 ≤ length (now space)) ⌝ }
     ensures { λ r. ⌜
         (r ≡ count (builder.sectionOf (now (points .entry))))
-        × (now (space .exit) ≡ upTo limit (builder.sectionOf (now (points .entry))) (now (space .entry)))
+        × (now (space .exit) ≡ frontKept limit (builder.sectionOf (now (points .entry))) (now (space .entry)))
         ⌝ }
 {
     let first = point_at(points, 0, true);
@@ -125,7 +125,7 @@ fn push_polygon(points: &[f64], space: &mut [f64], limit: usize) -> usize
         ⌝ }
     ensures { λ r. ⌜
         (r ≡ count (builder.polygonOf (now (points .entry))))
-        × (now (space .exit) ≡ upTo limit (builder.polygonOf (now (points .entry))) (now (space .entry)))
+        × (now (space .exit) ≡ frontKept limit (builder.polygonOf (now (points .entry))) (now (space .entry)))
         ⌝ }
 {
     let first = point_at(points, 0, false);
@@ -142,7 +142,7 @@ fn push_polygon(points: &[f64], space: &mut [f64], limit: usize) -> usize
 
 // A radius below -1e-9.
 fn any_below_axis(points: &[f64]) -> bool
-    ensures { λ r. ⌜ r ≡ belowAxis (now (points .entry)) ⌝ }
+    ensures { λ r. ⌜ r ≡ anyBelowAxis (now (points .entry)) ⌝ }
 {
     let n = points.len() / 2;
     let mut k = 0;
@@ -244,17 +244,17 @@ fn handed_back(answer: Kept) -> usize
     }
 }
 
-// The written front of the space, empty where it is turned down.
+// The written front of the space, from its first place on; empty where it is turned down.
 pub fn try_from_section<'a, 'b>(points: &'b [f64], space: &'a mut [f64]) -> &'a mut [f64]
-    ensures { λ r. ⌜ now r ≡ sectionKept (now (points .entry)) (now (space .entry)) ⌝ }
+    ensures { λ r. ⌜ (now r ≡ sectionKept (now (points .entry)) (now (space .entry))) × (r .ptr ≡ space .entry .ptr) ⌝ }
 {
     let numbers = handed_back(write_section(points, space));
     &mut space[..numbers]
 }
 
 pub fn try_from_polygon<'a, 'b>(points: &'b [f64], space: &'a mut [f64]) -> &'a mut [f64]
-    ensures { λ r. ⌜ now r ≡ polygonKept (now (points .entry)) (now (space .entry)) ⌝ }
+    ensures { λ r. ⌜ (now r ≡ polygonKept (now (points .entry)) (now (space .entry))) × (r .ptr ≡ space .entry .ptr) ⌝ }
 {
-    let numbers = handed_back(write_polygon(points, space));
-    &mut space[..numbers]
+    let count = handed_back(write_polygon(points, space));
+    &mut space[..count]
 }

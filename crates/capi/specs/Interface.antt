@@ -5,12 +5,9 @@ use mathlib.Core.Bool.{Bool, true, false}
 use mathlib.Core.Path.{_≡_}
 use mathlib.Core.List.{List}
 use lib.Ieee.{Float}
-use Rattle.arith.specs.declared.vector.Vec3.{Vec3}
 use Rattle.profile.specs.Replies.{Reply, value, turned-down, OfValue}
 use Rattle.profile.specs.declared.shapes.CollisionHit.{CollisionHit}
-use Rattle.profile.specs.declared.shapes.Sphere.{Sphere}
 use Rattle.builders.specs.Builder.{filled}
-use Rattle.bands.specs.declared.shapes.Cylinder.{Cylinder}
 use Rattle.walk.specs.declared.shapes.CountedHit.{CountedHit}
 
 abbrev pub numberOf : {A : Type 0} → Reply A → ℕ
@@ -36,14 +33,6 @@ pub record Measures {A B : Type 0} (P : A → Type 0) (fields : A → B) (answer
 pub record Builds (answer : Reply ℕ) (kept : List Float) (n : ℕ) (space₀ space : List Float) (count₀ count : ℕ) : Type 0 where
   pub gives : Gives (λ (k : ℕ). k) answer n count₀ count
   pub space-place : space ≡ filled kept space₀
-
--- ---- the bodies, of their numbers
-
-abbrev pub ball : Vec3 → Float → Sphere
-ball center radius = record { center = center; radius = radius }
-
-abbrev pub bar : Vec3 → Vec3 → Float → Cylinder
-bar a b radius = record { a = a; b = b; radius = radius }
 
 -- ---- the places, and what a value puts there
 

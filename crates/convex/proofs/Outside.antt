@@ -7,7 +7,7 @@ use Rattle.arith.specs.F64.{_≺_, _≼_, 𝟘, e-12}
 use Rattle.arith.specs.Num.{isFinite}
 use Rattle.arith.proofs.Laws.Upright.{not-below, over-upright}
 use Rattle.profile.specs.declared.shapes.Vertex.{Vertex}
-use Rattle.convex.specs.Convex.{oneSided, convexNear, convexPoint}
+use Rattle.convex.specs.Convex.{pointInConvex, convexNear, signedDistanceConvex}
 
 module _ (b : Float) (low : (b ≼ 𝟘) ≡ true) where
   -- 0 where it is not finite, 0, or d where it is over 1e-12
@@ -17,6 +17,6 @@ module _ (b : Float) (low : (b ≼ 𝟘) ≡ true) where
   kept-convex d true false f g = not-below d b (over-upright d f g) low
   kept-convex d false u f g = not-below 𝟘 b tt low
 
-  pub convex-outside : (c : List Float) (p : Vertex) → oneSided c p ≡ false → (convexPoint c p ≺ b) ≡ false
-  unfolding convexPoint
+  pub convex-outside : (c : List Float) (p : Vertex) → pointInConvex c p ≡ false → (signedDistanceConvex c p ≺ b) ≡ false
+  unfolding signedDistanceConvex
   convex-outside c p e = rw e (kept-convex (convexNear c p) _ _ refl refl)

@@ -1,4 +1,4 @@
--- 01's convex body distance. Any polygon, convex or not, gets the Rust's result. Assumes nothing.
+-- 01's convex body distance. Any polygon, convex or not, gets the Rust's result.
 use Prim.Native.Nat.{ℕ}
 use mathlib.Core.Bool.{Bool, not, _&&_, _||_, cond}
 use mathlib.Core.List.{List}
@@ -8,7 +8,7 @@ use Rattle.arith.specs.Num.{min, isFinite}
 use Rattle.profile.specs.Vertices.{hit, count, vertexAt, endAt, upto, any, nearestOf}
 use Rattle.segments.specs.Segments.{closest, segments}
 use Rattle.points.specs.Points.{pointDistance}
-use Rattle.points.specs.Overlap.{result}
+use Rattle.points.specs.Overlap.{resultOf}
 use Rattle.profile.specs.declared.shapes.Vertex.{Vertex}
 use Rattle.profile.specs.declared.shapes.CollisionHit.{CollisionHit}
 
@@ -21,48 +21,48 @@ unfoldable pub convexGap : List Float → List Float → CollisionHit
 convexGap c s = upto (convexRow c s) (hit ∞ (vertexAt s 0)) (count c)
 
 -- the cross product of b - a and p - a: on which side of the line from a to b the point p lies
-unfoldable pub orientation : Vertex → Vertex → Vertex → Float
-orientation a b p = (b .z ⊖ a .z) ⊗ (p .r ⊖ a .r) ⊖ (b .r ⊖ a .r) ⊗ (p .z ⊖ a .z)
+unfoldable pub orient : Vertex → Vertex → Vertex → Float
+orient a b p = (b .z ⊖ a .z) ⊗ (p .r ⊖ a .r) ⊖ (b .r ⊖ a .r) ⊗ (p .z ⊖ a .z)
 
 -- the cross products above 1e-9 in magnitude share a sign: not one of them is positive and another negative
-unfoldable pub oneSided : List Float → Vertex → Bool
-oneSided c p =
+unfoldable pub pointInConvex : List Float → Vertex → Bool
+pointInConvex c p =
     not
-    (any (λ k. e-9 ≺ orientation (vertexAt c k) (endAt c k) p) (count c)
-    && any (λ k. orientation (vertexAt c k) (endAt c k) p ≺ neg e-9) (count c))
+    (any (λ k. e-9 ≺ orient (vertexAt c k) (endAt c k) p) (count c)
+    && any (λ k. orient (vertexAt c k) (endAt c k) p ≺ neg e-9) (count c))
 
 -- the least distance of p to all convex edges
 unfoldable pub convexNear : List Float → Vertex → Float
 convexNear c p = upto (λ k best. min best (closest p (vertexAt c k) (endAt c k) .distance)) ∞ (count c)
 
 -- 0 if ≤ 1e-12; negative when the cross products share a sign
-unfoldable pub convexPoint : List Float → Vertex → Float
-convexPoint c p =
+unfoldable pub signedDistanceConvex : List Float → Vertex → Float
+signedDistanceConvex c p =
     let d = convexNear c p in
-    cond (not (isFinite d) || (d ≼ e-12)) 𝟘 (cond (oneSided c p) (neg d) d)
+    cond (not (isFinite d) || (d ≼ e-12)) 𝟘 (cond (pointInConvex c p) (neg d) d)
 
 -- penetration: first the point distance at the convex's vertices, then at each section vertex its convex distance; each lower
 -- value below 0 keeps its witness
 unfoldable pub convexPenetration : List Float → List Float → Vertex → CollisionHit
 convexPenetration c s witness =
-    nearestOf (λ j. hit (convexPoint c (vertexAt s j)) (vertexAt s j))
+    nearestOf (λ j. hit (signedDistanceConvex c (vertexAt s j)) (vertexAt s j))
     (nearestOf (λ i. pointDistance s (vertexAt c i)) (hit 𝟘 witness) (count c))
     (count s)
 
 -- 01's proper crossing: for each of the two edges, the cross products of the other's ends have a rounded product below 0
-unfoldable pub properCrossing : Vertex → Vertex → Vertex → Vertex → Bool
-properCrossing a b c d =
-    (orientation a b c ⊗ orientation a b d ≺ 𝟘) && (orientation c d a ⊗ orientation c d b ≺ 𝟘)
+unfoldable pub properCross : Vertex → Vertex → Vertex → Vertex → Bool
+properCross a b c d =
+    (orient a b c ⊗ orient a b d ≺ 𝟘) && (orient c d a ⊗ orient c d b ≺ 𝟘)
 
 unfoldable pub rowCrossing : List Float → List Float → ℕ → Bool
-rowCrossing c s i = any (λ j. properCrossing (vertexAt c i) (endAt c i) (vertexAt s j) (endAt s j)) (count s)
+rowCrossing c s i = any (λ j. properCross (vertexAt c i) (endAt c i) (vertexAt s j) (endAt s j)) (count s)
 
-unfoldable pub anyCrossing : List Float → List Float → Bool
-anyCrossing c s = any (rowCrossing c s) (count c)
+unfoldable pub anyCross : List Float → List Float → Bool
+anyCross c s = any (rowCrossing c s) (count c)
 
 -- 01's convex body distance, of the convex body c and the section s
 unfoldable pub convexDistance : List Float → List Float → CollisionHit
 convexDistance c s =
     let gap = convexGap c s in
     let deep = convexPenetration c s (gap .witness) in
-    hit (result (deep .distance) (anyCrossing c s) (gap .distance)) (deep .witness)
+    hit (resultOf (deep .distance) (anyCross c s) (gap .distance)) (deep .witness)

@@ -9,8 +9,8 @@ ghost use Rattle.arith.specs.Num as num;
 ghost use Rattle.profile.specs.Vertices.{hit, count, vertexAt, endAt, nearer, nearestOf};
 ghost use Rattle.segments.specs.Segments.{closest, segments};
 ghost use Rattle.points.specs.Points.{pointDistance};
-ghost use Rattle.convex.specs.Convex.{convexRow, convexGap, orientation, oneSided, convexNear, convexPoint};
-ghost use Rattle.convex.specs.Convex.{convexPenetration, properCrossing, anyCrossing, convexDistance};
+ghost use Rattle.convex.specs.Convex.{convexRow, convexGap, orient, pointInConvex, convexNear, signedDistanceConvex};
+ghost use Rattle.convex.specs.Convex.{convexPenetration, properCross, anyCross, convexDistance};
 use points::deeper_at;
 use points::result_of;
 use profile::CollisionHit;
@@ -66,20 +66,20 @@ fn convex_gap(c: &[f64], s: &[f64]) -> CollisionHit
 }
 
 pub fn orient(a: Vertex, b: Vertex, p: Vertex) -> f64
-    ensures { λ r. ⌜ r ≡ orientation a b p ⌝ }
+    ensures { λ r. ⌜ r ≡ orient a b p ⌝ }
 {
     (b.z - a.z) * (p.r - a.r) - (b.r - a.r) * (p.z - a.z)
 }
 
 fn orient_at(c: &[f64], p: Vertex, k: usize) -> f64
     requires { ⌜ k < count (now c) ⌝ }
-    ensures { λ r. ⌜ r ≡ orientation (vertexAt (now (c .entry)) k) (endAt (now (c .entry)) k) p ⌝ }
+    ensures { λ r. ⌜ r ≡ orient (vertexAt (now (c .entry)) k) (endAt (now (c .entry)) k) p ⌝ }
 {
     orient(vertex_at(c, k), end_at(c, k), p)
 }
 
 pub fn point_in_convex(c: &[f64], p: Vertex) -> bool
-    ensures { λ r. ⌜ r ≡ oneSided (now (c .entry)) p ⌝ }
+    ensures { λ r. ⌜ r ≡ pointInConvex (now (c .entry)) p ⌝ }
 {
     let n = c.len() / 2;
     let mut left = false;
@@ -120,7 +120,7 @@ fn convex_near(c: &[f64], p: Vertex) -> f64
 }
 
 pub fn signed_distance_convex(c: &[f64], p: Vertex) -> f64
-    ensures { λ r. ⌜ r ≡ convexPoint (now (c .entry)) p ⌝ }
+    ensures { λ r. ⌜ r ≡ signedDistanceConvex (now (c .entry)) p ⌝ }
 {
     let best = convex_near(c, p);
     if !arith::is_finite(best) {
@@ -160,7 +160,7 @@ fn deepest_corner(c: &[f64], s: &[f64], witness: Vertex) -> CollisionHit
 }
 
 fn deeper_point(c: &[f64], v: Vertex, best: CollisionHit) -> CollisionHit
-    ensures { λ r. ⌜ r ≡ nearer best (hit (convexPoint (now (c .entry)) v) v) ⌝ }
+    ensures { λ r. ⌜ r ≡ nearer best (hit (signedDistanceConvex (now (c .entry)) v) v) ⌝ }
 {
     let new = CollisionHit {
         distance: signed_distance_convex(c, v),
@@ -173,7 +173,7 @@ fn deeper_point(c: &[f64], v: Vertex, best: CollisionHit) -> CollisionHit
 // distance.
 fn deeper_vertex(c: &[f64], s: &[f64], j: usize, best: CollisionHit) -> CollisionHit
     requires { ⌜ j < count (now s) ⌝ }
-    ensures { λ r. ⌜ r ≡ nearer best (hit (convexPoint (now (c .entry)) (vertexAt (now (s .entry)) j)) (vertexAt (now (s .entry)) j)) ⌝ }
+    ensures { λ r. ⌜ r ≡ nearer best (hit (signedDistanceConvex (now (c .entry)) (vertexAt (now (s .entry)) j)) (vertexAt (now (s .entry)) j)) ⌝ }
 {
     let v = vertex_at(s, j);
     if best.distance <= 0.0 {
@@ -199,21 +199,21 @@ fn convex_penetration(c: &[f64], s: &[f64], witness: Vertex) -> CollisionHit
 }
 
 pub fn proper_cross(a: Vertex, b: Vertex, c: Vertex, d: Vertex) -> bool
-    ensures { λ r. ⌜ r ≡ properCrossing a b c d ⌝ }
+    ensures { λ r. ⌜ r ≡ properCross a b c d ⌝ }
 {
     orient(a, b, c) * orient(a, b, d) < 0.0 && orient(c, d, a) * orient(c, d, b) < 0.0
 }
 
 fn crosses_edge(s: &[f64], j: usize, a: Vertex, b: Vertex) -> bool
     requires { ⌜ j < count (now s) ⌝ }
-    ensures { λ r. ⌜ r ≡ properCrossing a b (vertexAt (now (s .entry)) j) (endAt (now (s .entry)) j) ⌝ }
+    ensures { λ r. ⌜ r ≡ properCross a b (vertexAt (now (s .entry)) j) (endAt (now (s .entry)) j) ⌝ }
 {
     proper_cross(a, b, vertex_at(s, j), end_at(s, j))
 }
 
 // The search stops at the first proper crossing.
 fn any_cross(c: &[f64], s: &[f64]) -> bool
-    ensures { λ r. ⌜ r ≡ anyCrossing (now (c .entry)) (now (s .entry)) ⌝ }
+    ensures { λ r. ⌜ r ≡ anyCross (now (c .entry)) (now (s .entry)) ⌝ }
 {
     let n = c.len() / 2;
     let m = s.len() / 2;
@@ -237,7 +237,7 @@ fn any_cross(c: &[f64], s: &[f64]) -> bool
 
 // The search runs only where the penetration does not decide.
 fn convex_overlaps(c: &[f64], s: &[f64], penetration: f64) -> bool
-    ensures { λ r. ⌜ r ≡ (not (penetration ≺ neg e-9) && anyCrossing (now (c .entry)) (now (s .entry))) ⌝ }
+    ensures { λ r. ⌜ r ≡ (not (penetration ≺ neg e-9) && anyCross (now (c .entry)) (now (s .entry))) ⌝ }
 {
     if penetration < -INTERIOR {
         return false;

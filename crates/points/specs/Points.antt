@@ -1,4 +1,4 @@
--- 01's point distance and its sign. Assumes nothing.
+-- 01's point distance and its sign.
 use Prim.Native.Nat.{ℕ}
 use mathlib.Core.Bool.{Bool, false, not, _&&_, _||_, cond}
 use mathlib.Core.List.{List}
@@ -14,37 +14,37 @@ use Rattle.profile.specs.declared.shapes.Sphere.{Sphere}
 use Rattle.arith.specs.declared.vector.Vec3.{Vec3}
 
 -- the edge from a to b counts: an end has |radius| > 1e-9. Any other is an axis edge.
-abbrev pub surface : Vertex → Vertex → Bool
-surface a b = (e-9 ≺ abs (a .r)) || (e-9 ≺ abs (b .r))
+abbrev pub edgeIsSurface : Vertex → Vertex → Bool
+edgeIsSurface a b = (e-9 ≺ abs (a .r)) || (e-9 ≺ abs (b .r))
 
 -- edge k lowers the distance that best has: the first strictly smallest wins
 unfoldable pub surfaceStep : List Float → Vertex → ℕ → CollisionHit → CollisionHit
 surfaceStep s p k best =
-    cond (surface (vertexAt s k) (endAt s k)) (nearer best (closest p (vertexAt s k) (endAt s k))) best
+    cond (edgeIsSurface (vertexAt s k) (endAt s k)) (nearer best (closest p (vertexAt s k) (endAt s k))) best
 
 -- the closest point on the edges that count; +infinity and the first vertex where none does
 unfoldable pub surfaceNear : List Float → Vertex → CollisionHit
 surfaceNear s p = upto (surfaceStep s p) (hit ∞ (vertexAt s 0)) (count s)
 
 -- the edge from a to b crosses the line from p along z strictly beyond p; one whose radii differ by at most 1e-18 does not
-unfoldable pub crossing : Vertex → Vertex → Vertex → Bool
-crossing p a b =
+unfoldable pub crosses : Vertex → Vertex → Vertex → Bool
+crosses p a b =
     let den = b .r ⊖ a .r in
     unlike (p .r ≺ a .r) (p .r ≺ b .r)
     && (not (abs den ≼ e-18) && (p .z ≺ a .z ⊕ (b .z ⊖ a .z) ⊗ (p .r ⊖ a .r) ⊘ den))
 
 -- the even-odd rule
-unfoldable pub oddCrossings : List Float → Vertex → Bool
-oddCrossings s p = upto (λ k odd. unlike odd (crossing p (vertexAt s k) (endAt s k))) false (count s)
+unfoldable pub pointInside : List Float → Vertex → Bool
+pointInside s p = upto (λ k odd. unlike odd (crosses p (vertexAt s k) (endAt s k))) false (count s)
 
 -- z is more than 1e-9 inside the axis edge from a to b
 unfoldable pub insideAxisEdge : Float → Vertex → Vertex → Bool
 insideAxisEdge z a b =
-    not (surface a b) && ((min (a .z) (b .z) ⊕ e-9 ≺ z) && (z ≺ max (a .z) (b .z) ⊖ e-9))
+    not (edgeIsSurface a b) && ((min (a .z) (b .z) ⊕ e-9 ≺ z) && (z ≺ max (a .z) (b .z) ⊖ e-9))
 
 unfoldable pub inSection : List Float → Vertex → Bool
 inSection s p =
-    oddCrossings s p || ((p .r ≼ e-8) && any (λ k. insideAxisEdge (p .z) (vertexAt s k) (endAt s k)) (count s))
+    pointInside s p || ((p .r ≼ e-8) && any (λ k. insideAxisEdge (p .z) (vertexAt s k) (endAt s k)) (count s))
 
 -- +infinity stays; at most 1e-12 is 0; otherwise negative when in the section
 unfoldable pub pointDistance : List Float → Vertex → CollisionHit

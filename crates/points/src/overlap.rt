@@ -3,7 +3,7 @@ ghost use mathlib.Core.Path.{_≡_};
 ghost use Prim.Native.Nat.{_≤_};
 ghost use Rattle.profile.specs.Vertices.{count, nearer};
 ghost use Rattle.points.specs.Points.{pointDistance};
-ghost use Rattle.points.specs.Overlap.{result};
+ghost use Rattle.points.specs.Overlap.{resultOf};
 use super::points::in_section;
 use super::points::signed_distance_2d;
 use profile::CollisionHit;
@@ -26,7 +26,7 @@ pub fn deeper_at(s: &[f64], p: Vertex, best: CollisionHit) -> CollisionHit
 }
 
 pub fn result_of(penetration: f64, overlaps: bool, gap: f64) -> f64
-    ensures { λ r. ⌜ r ≡ result penetration overlaps gap ⌝ }
+    ensures { λ r. ⌜ r ≡ resultOf penetration overlaps gap ⌝ }
 {
     if penetration < -INTERIOR {
         return penetration;

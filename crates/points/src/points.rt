@@ -6,7 +6,7 @@ ghost use lib.Ieee.{unlike};
 ghost use Rattle.profile.specs.Vertices.{count, vertexAt, endAt, any, nearer};
 ghost use Rattle.segments.specs.Segments.{closest};
 ghost use Rattle.points.specs.Points as points;
-ghost use Rattle.points.specs.Points.{surface, surfaceStep, surfaceNear, crossing, oddCrossings};
+ghost use Rattle.points.specs.Points.{edgeIsSurface, surfaceStep, surfaceNear, crosses, pointInside};
 ghost use Rattle.points.specs.Points.{insideAxisEdge, inSection, pointDistance, sphereDistance};
 use arith::Vec3;
 use profile::CollisionHit;
@@ -19,14 +19,14 @@ use segments::point_segment;
 
 // An edge with both ends on the axis is no surface.
 fn edge_is_surface(a: Vertex, b: Vertex) -> bool
-    ensures { λ r. ⌜ r ≡ surface a b ⌝ }
+    ensures { λ r. ⌜ r ≡ edgeIsSurface a b ⌝ }
 {
     arith::abs(a.r) > 1e-9 || arith::abs(b.r) > 1e-9
 }
 
 // The edge from a to b, if it counts, lowers the distance that best has.
 fn surface_edge(p: Vertex, a: Vertex, b: Vertex, best: CollisionHit) -> CollisionHit
-    ensures { λ r. ⌜ r ≡ cond (surface a b) (nearer best (closest p a b)) best ⌝ }
+    ensures { λ r. ⌜ r ≡ cond (edgeIsSurface a b) (nearer best (closest p a b)) best ⌝ }
 {
     if edge_is_surface(a, b) {
         return point_segment(p, a, b, best);
@@ -60,7 +60,7 @@ fn surface_near(s: &[f64], p: Vertex) -> CollisionHit
 
 // The edge crosses the line from p along z, beyond p.
 fn crosses(p: Vertex, a: Vertex, b: Vertex) -> bool
-    ensures { λ r. ⌜ r ≡ crossing p a b ⌝ }
+    ensures { λ r. ⌜ r ≡ crosses p a b ⌝ }
 {
     let pr = p.r;
     let ar = a.r;
@@ -77,13 +77,13 @@ fn crosses(p: Vertex, a: Vertex, b: Vertex) -> bool
 
 fn odd_step(s: &[f64], p: Vertex, k: usize, odd: bool) -> bool
     requires { ⌜ k < count (now s) ⌝ }
-    ensures { λ r. ⌜ r ≡ unlike odd (crossing p (vertexAt (now (s .entry)) k) (endAt (now (s .entry)) k)) ⌝ }
+    ensures { λ r. ⌜ r ≡ unlike odd (crosses p (vertexAt (now (s .entry)) k) (endAt (now (s .entry)) k)) ⌝ }
 {
     odd != crosses(p, vertex_at(s, k), end_at(s, k))
 }
 
 fn point_inside(s: &[f64], p: Vertex) -> bool
-    ensures { λ r. ⌜ r ≡ oddCrossings (now (s .entry)) p ⌝ }
+    ensures { λ r. ⌜ r ≡ pointInside (now (s .entry)) p ⌝ }
 {
     let n = s.len() / 2;
     let mut odd = false;

@@ -1,5 +1,5 @@
--- Vertices and edges of a section, and the ways to go through them. A section is a list of numbers, z and radius in turn; its last
--- vertex joins the first. Assumes nothing.
+-- Vertices and edges of a section, and the ways to go through them; makers of hits and spheres. A section is a list of numbers, z and radius in turn; its last
+-- vertex joins the first.
 use Prim.Native.Nat.{ℕ, zero, suc, _+_, _*_, _/_}
 use mathlib.Core.Bool.{Bool, false, _||_, cond}
 use mathlib.Core.List.{List}
@@ -8,13 +8,18 @@ use lib.Dec.{eqb}
 use lib.Ieee.{Float, nan}
 use Rattle.arith.specs.F64.{_≺_}
 use Rattle.profile.specs.declared.shapes.Vertex.{Vertex}
+use Rattle.arith.specs.declared.vector.Vec3.{Vec3}
 use Rattle.profile.specs.declared.shapes.CollisionHit.{CollisionHit}
+use Rattle.profile.specs.declared.shapes.Sphere.{Sphere}
 
 abbrev pub vertex : Float → Float → Vertex
 vertex z r = record { z = z; r = r }
 
 abbrev pub hit : Float → Vertex → CollisionHit
 hit distance witness = record { distance = distance; witness = witness }
+
+abbrev pub ball : Vec3 → Float → Sphere
+ball center radius = record { center = center; radius = radius }
 
 abbrev pub count : List Float → ℕ
 count s = length s / 2

@@ -11,23 +11,23 @@ use Rattle.arith.specs.Num.{isFinite}
 use Rattle.roots.specs.Roots.{sqrt, hypot}
 use Rattle.arith.specs.Vector.{vec}
 use Rattle.arith.specs.declared.vector.Vec3.{Vec3}
-use Rattle.profile.specs.Vertices.{vertex, hit, upto, any, vertexAt}
+use Rattle.profile.specs.Vertices.{ball, vertex, hit, upto, any, vertexAt}
 use Rattle.segments.specs.Segments.{closest, closestPlaces, segments}
-use Rattle.points.specs.Points.{surfaceStep, surfaceNear, crossing, oddCrossings, insideAxisEdge, inSection}
+use Rattle.points.specs.Points.{surfaceStep, surfaceNear, crosses, pointInside, insideAxisEdge, inSection}
 use Rattle.points.specs.Points.{pointDistance, sphereDistance}
 use Rattle.segments.specs.Clip.{clipSide, clip}
-use Rattle.boxes.specs.Boxes.{edgeBox, wellInside, crossesBox, boxGap, boxPenetration, boxWitness}
+use Rattle.boxes.specs.Boxes.{edgeBox, strictlyInsideAabb, segmentThroughInterior, boxGap, boxPenetration, boxWitness}
 use Rattle.boxes.specs.Boxes.{boxHolds, boxDistance, aabb}
-use Rattle.points.specs.Overlap.{result}
+use Rattle.points.specs.Overlap.{resultOf}
 use Rattle.builders.specs.Builder.{samePoint, keep, sectionPoints, sectionOf, polygonPoints, polygonOf}
 use Rattle.profile.specs.Refusals.{refusal, anyOf}
 use Rattle.profile.specs.Replies.{Reply, value, turned-down}
 use Rattle.section.specs.Answers.{pointAnswer, sphereAnswer, boxAnswer}
 use Rattle.builders.specs.Kept.{sectionAnswer, polygonAnswer}
-use Rattle.bands.specs.Axis.{direction, axis}
-use Rattle.bands.specs.Band.{axialBox, bandOf, halfWidth, spanAt}
-use Rattle.walk.specs.Pieces.{widest, narrowest, boxOf, variation}
-use Rattle.walk.specs.Walk.{sampleAt, sampled, walk, walkAll, bandDistance}
+use Rattle.bands.specs.Axis.{axisDir, axis}
+use Rattle.bands.specs.Band.{bar, axialBox, bandOf, halfWidth, spanAt}
+use Rattle.walk.specs.Pieces.{widest, narrowest, pieceBox, variation}
+use Rattle.walk.specs.Walk.{sampleVertex, sampled, walk, walkAll, bandDistance}
 use Rattle.cylinders.specs.Cylinders.{cylinderDistance, cylinderAnswer}
 use Rattle.bands.specs.declared.shapes.Cylinder.{Cylinder}
 use Rattle.walk.specs.declared.shapes.CountedHit.{CountedHit}
@@ -73,14 +73,8 @@ pub data All : List Row → Type 0 where
 abbrev pub at : ℕ → ℕ → ℕ → Vec3
 at x y z = vec (mm x) (mm y) (mm z)
 
-abbrev pub ball : Vec3 → Float → Sphere
-ball center radius = record { center = center; radius = radius }
-
 abbrev pub hits : Float → ℕ → ℕ → Reply CollisionHit
 hits d z r = value (hit d (vertex (mm z) (mm r)))
-
-abbrev pub bar : Vec3 → Vec3 → Float → Cylinder
-bar a b radius = record { a = a; b = b; radius = radius }
 
 -- distance and witness; boxes measured and the most pieces that waited, uncut
 abbrev pub walks : Float → Float → Float → ℕ → ℕ → Reply CountedHit
@@ -135,11 +129,11 @@ readings =
 -- the definitions give every row
 pub all-readings : All readings
 unfolding add sub mul div neg lt le ofInt ofBits sqrt hypot isFinite
-    upto any closest closestPlaces segments surfaceStep surfaceNear crossing oddCrossings insideAxisEdge inSection
-    pointDistance sphereDistance clipSide clip edgeBox wellInside crossesBox boxGap boxPenetration boxWitness
-    boxHolds result boxDistance samePoint keep sectionPoints sectionOf polygonPoints polygonOf
+    upto any closest closestPlaces segments surfaceStep surfaceNear crosses pointInside insideAxisEdge inSection
+    pointDistance sphereDistance clipSide clip edgeBox strictlyInsideAabb segmentThroughInterior boxGap boxPenetration boxWitness
+    boxHolds resultOf boxDistance samePoint keep sectionPoints sectionOf polygonPoints polygonOf
     refusal anyOf pointAnswer sphereAnswer boxAnswer sectionAnswer polygonAnswer
-    direction axis axialBox bandOf halfWidth spanAt widest narrowest boxOf variation sampleAt sampled walk walkAll bandDistance
+    axisDir axis axialBox bandOf halfWidth spanAt widest narrowest pieceBox variation sampleVertex sampled walk walkAll bandDistance
     cylinderDistance cylinderAnswer
 all-readings =
     let all-points : Holds (everywhere (mm 0 ∷ mm 0 ∷ mm 20 ∷ mm 0 ∷ []) ∞) = λ p. refl in

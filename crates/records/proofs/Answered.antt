@@ -24,7 +24,7 @@ use Rattle.bands.specs.declared.shapes.Cylinder.{Cylinder}
 use Rattle.cylinders.specs.declared.shapes.CountedAnswer.the-variants as cylinder-answers
 use Rattle.records.specs.Flattened.{flattened}
 use Rattle.records.specs.Steps.{OfFront, OfPoint, OfSphere, OfBox, OfCylinder}
-use Rattle.records.proofs.Filled.{Filled}
+use Rattle.records.proofs.FrontFilled.{FrontFilled}
 
 flattened-length : (xs : List Vertex) → length (flattened xs) ≡ 2 * length xs
 unfolding flattened
@@ -59,7 +59,7 @@ module _ (xs : List Vertex) (h : 256 < length xs) where
   cylinder-too-many c = record { equal = rw (number-three _ _); owed = tt }
 
 -- the end of the loop
-module _ (xs : List Vertex) (i : ℕ) (l : List Float) (f : Filled xs i l) (h : length xs ≤ i) where
+module _ (xs : List Vertex) (i : ℕ) (l : List Float) (f : FrontFilled xs i l) (h : length xs ≤ i) where
   whole : length xs ≤ 256 → take (2 * length xs) l ≡ flattened xs
   whole k =
       let low : i ≤ length xs = f .low in

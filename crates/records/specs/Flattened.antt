@@ -1,4 +1,4 @@
--- Vertex records as document 01's list of numbers: z and radius of each in turn. Assumes nothing.
+-- Vertex records as document 01's list of numbers: z and radius of each in turn.
 use mathlib.Core.List.{List, [], _∷_}
 use lib.Ieee.{Float}
 use Rattle.profile.specs.declared.shapes.Vertex.{Vertex}

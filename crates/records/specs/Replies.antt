@@ -3,7 +3,9 @@ use mathlib.Core.Bool.{false}
 use Rattle.arith.specs.F64.{𝟘}
 use Rattle.arith.specs.Vector.{vec}
 use Rattle.arith.specs.declared.vector.Vec3.{Vec3}
+use Rattle.profile.specs.Vertices.{ball}
 use Rattle.boxes.specs.Boxes.{aabb}
+use Rattle.bands.specs.Band.{bar}
 use Rattle.profile.specs.Replies.{Reply, value, turned-down}
 use Rattle.profile.specs.declared.shapes.Aabb.{Aabb}
 use Rattle.profile.specs.declared.shapes.CollisionHit.{CollisionHit}
@@ -21,13 +23,13 @@ abbrev pub pointOf : Place → Vec3
 pointOf x = vec (x .x) (x .y) (x .z)
 
 abbrev pub sphereOf : Ball → Sphere
-sphereOf x = record { center = vec (x .x) (x .y) (x .z); radius = x .radius }
+sphereOf x = ball (vec (x .x) (x .y) (x .z)) (x .radius)
 
 abbrev pub boxOf : Bounds → Aabb
 boxOf x = aabb (x .z0) (x .z1) (x .r0) (x .r1)
 
 abbrev pub cylinderOf : Bar → Cylinder
-cylinderOf x = record { a = vec (x .ax) (x .ay) (x .az); b = vec (x .bx) (x .by) (x .bz); radius = x .radius }
+cylinderOf x = bar (vec (x .ax) (x .ay) (x .az)) (vec (x .bx) (x .by) (x .bz)) (x .radius)
 
 -- the hit and the number 0, or the number and nothing else
 abbrev pub cReply : Reply CollisionHit → c.Reply

@@ -110,13 +110,17 @@ fn any_written(rest: &[f64]) -> bool {
     false
 }
 
-// A builder's space has to be blank behind what it keeps, and all of it where it refuses.
-fn built(answer: Kept, space: &[f64]) -> Reply
+// A builder's space has to be blank behind what it keeps, and all of it where it refuses; the part
+// that it hands back has what it keeps.
+fn built(answer: Kept, part: usize, space: &[f64]) -> Reply
     ensures { λ r. ⌜ kept r ≤ length (now (space .entry)) ⌝ }
 {
     match answer {
         Kept::Numbers(n) => {
             if space.len() < n {
+                return Reply::Damaged;
+            }
+            if part != n {
                 return Reply::Damaged;
             }
             if any_written(&space[n..]) {
@@ -125,6 +129,9 @@ fn built(answer: Kept, space: &[f64]) -> Reply
             Reply::Kept(n)
         }
         Kept::Refused(number) => {
+            if part != 0 {
+                return Reply::Damaged;
+            }
             if any_written(space) {
                 return Reply::Damaged;
             }
@@ -145,8 +152,14 @@ fn plain(letter: u8, s: &[f64], t: &[f64], v: &[f64; 16], space: &mut [f64]) -> 
         b'b' => hit(section::aabb_polygon_distance(v[0], v[1], v[2], v[3], s)),
         b'c' => hit(section::convex_polygon_distance(s, t)),
         b'y' => walked(cylinders::query_cylinder(s, cylinder(v))),
-        b'S' => built(builders::write_section(s, space), space),
-        b'P' => built(builders::write_polygon(s, space), space),
+        b'S' => {
+            let part = builders::try_from_section(s, space).len();
+            built(builders::write_section(s, space), part, space)
+        }
+        b'P' => {
+            let part = builders::try_from_polygon(s, space).len();
+            built(builders::write_polygon(s, space), part, space)
+        }
         _ => Reply::Malformed,
     }
 }

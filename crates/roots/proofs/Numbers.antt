@@ -1,4 +1,4 @@
--- Whole numbers: order decided, and what a comparison says. Assumes nothing.
+-- Whole numbers: order decided, and what a comparison says.
 use Prim.Native.Nat.{_<_, compare, Ordering, Ordering·eq, Ordering·gt, Ordering·lt, ℕ, _≤_}
 use mathlib.Core.Bool.{Bool, false, not, true}
 use mathlib.Core.Logic.{inl, inr, _⊎_}

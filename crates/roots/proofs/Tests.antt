@@ -1,4 +1,4 @@
--- Boolean tests of numbers as equations between tests. Assumes nothing.
+-- Boolean tests of numbers as equations between tests.
 use Prim.Native.Nat.{_<_, ℕ, _≤_}
 use mathlib.Core.Bool.{_&&_, Bool, false, true, _||_}
 use mathlib.Core.Logic.{inl, inr, _⊎_}

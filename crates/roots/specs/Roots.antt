@@ -1,6 +1,6 @@
 -- Square root and hypot over any format, as document 01 has them: over whole multiples of the format's smallest value (2 ^ -1074 in
 -- binary64), by comparing squares; special operands as IEEE 754's squareRoot and hypot. That the result is the nearest of all values
--- of the format, ties to even, is shown in arith, proofs/Laws/NearestRoot. Assumes nothing.
+-- of the format, ties to even, is shown in arith, proofs/Laws/NearestRoot.
 use Prim.Native.Nat.{ℕ, zero, suc, _+_, _-_, _*_, _/_, _^_, compare}
 use mathlib.Core.Bool.{true, false, cond}
 use lib.Dec.{leb}

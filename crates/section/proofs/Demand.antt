@@ -1,5 +1,5 @@
 -- Demand 1 of every query, over the definitions alone: no distance is NaN, and all that is answered is bounded.
-pub mod UpTo
+pub mod AtMost
 pub mod Bounds
 pub mod Hits
 pub mod Segments

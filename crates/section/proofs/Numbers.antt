@@ -17,8 +17,8 @@ use Rattle.profile.proofs.Steps.{pick, upto-keeps}
 use Rattle.segments.specs.Segments.{closest, segments}
 use Rattle.segments.specs.Clip.{clip}
 use Rattle.segments.proofs.Held.{closest-held, segments-held}
-use Rattle.points.specs.Overlap.{result}
-use Rattle.points.specs.Points.{surface, surfaceStep, surfaceNear, inSection, pointDistance}
+use Rattle.points.specs.Overlap.{resultOf}
+use Rattle.points.specs.Points.{edgeIsSurface, surfaceStep, surfaceNear, inSection, pointDistance}
 use Rattle.boxes.specs.Boxes.{corners, edgeBox, probe, boxGap, boxPenetration, boxHolds, boxDistance}
 
 -- ---- points
@@ -26,7 +26,7 @@ surface-number : (s : List Float) (p : Vertex) → NumberHit (surfaceNear s p)
 unfolding surfaceNear surfaceStep
 surface-number s p =
     upto-keeps NumberHit (surfaceStep s p) (hit ∞ (vertexAt s 0)) (count s) infinite
-    (λ k l x q. pick NumberHit (surface (vertexAt s k) (endAt s k))
+    (λ k l x q. pick NumberHit (edgeIsSurface (vertexAt s k) (endAt s k))
     (λ h. nearer-number x (closest p (vertexAt s k) (endAt s k)) q (closest-held p (vertexAt s k) (endAt s k))) (λ h. q))
 
 pub point-number : (s : List Float) (p : Vertex) → NumberHit (pointDistance s p)
@@ -61,7 +61,7 @@ penetration-number s x v =
     (λ k. number-held binary64 (pointDistance s (probe x k) .distance) (point-number s (probe x k)))
 
 pub box-number : (s : List Float) (x : Aabb) → NumberHit (boxDistance s x)
-unfolding boxDistance result
+unfolding boxDistance resultOf
 box-number s x =
     let gap = boxGap s x .distance in
     let deep = boxPenetration s x (boxGap s x .witness) .distance in

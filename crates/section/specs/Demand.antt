@@ -13,7 +13,7 @@ use Rattle.profile.specs.Vertices.{hit, count, vertexAt, any}
 use Rattle.profile.specs.declared.shapes.CollisionHit.{CollisionHit}
 
 -- finite, and at most 2 ^ n in magnitude
-pub record UpTo (n : ℕ) (x : Float) : Type 0 where
+pub record AtMost (n : ℕ) (x : Float) : Type 0 where
   pub ends : T (isFinite x)
   pub least : T (neg (fin false 1 (pos n)) ≼ x)
   pub most : T (x ≼ fin false 1 (pos n))
@@ -24,14 +24,14 @@ offAxis s = any (λ k. e-9 ≺ abs (vertexAt s k .r)) (count s)
 
 -- a distance at most 2 ^ 28 and a witness at most 2 ^ 25 in magnitude
 pub record Bounded (h : CollisionHit) : Type 0 where
-  pub distance : UpTo 28 (h .distance)
-  pub z : UpTo 25 (h .witness .z)
-  pub r : UpTo 25 (h .witness .r)
+  pub distance : AtMost 28 (h .distance)
+  pub z : AtMost 25 (h .witness .z)
+  pub r : AtMost 25 (h .witness .r)
 
 -- the same where some vertex is off the axis; otherwise +infinity with the first vertex as witness
 pub record BoundedOffAxis (s : List Float) (h : CollisionHit) : Type 0 where
   pub number : T (not (isNan (h .distance)))
-  pub finite : T (offAxis s) → UpTo 28 (h .distance)
+  pub finite : T (offAxis s) → AtMost 28 (h .distance)
   pub infinite : T (not (offAxis s)) → h ≡ hit ∞ (vertexAt s 0)
-  pub z : UpTo 25 (h .witness .z)
-  pub r : UpTo 25 (h .witness .r)
+  pub z : AtMost 25 (h .witness .z)
+  pub r : AtMost 25 (h .witness .r)

@@ -1,4 +1,4 @@
--- 01's clip (Liang-Barsky). Assumes nothing.
+-- 01's clip (Liang-Barsky).
 use mathlib.Core.Bool.{Bool, true, false, not, cond}
 use lib.Ieee.{Float, neg}
 use Rattle.arith.specs.F64.{_⊖_, _⊘_, _≺_, _≼_, 𝟘, 𝟙, e-15, e-18}

@@ -1,5 +1,5 @@
 -- The closest point of a segment to a point, and of two segments (Ericson, Real-Time Collision Detection, 5.1.2 and 5.1.9), with
--- 01's thresholds 1e-24 and 1e-18. Assumes nothing.
+-- 01's thresholds 1e-24 and 1e-18.
 use mathlib.Core.Bool.{cond}
 use lib.Ieee.{Float, binary64, neg}
 use Rattle.arith.specs.F64.{_⊕_, _⊖_, _⊗_, _⊘_, _≺_, _≼_, 𝟘, 𝟙, e-18, e-24}
@@ -23,14 +23,14 @@ along a b t = vertex (a .z ⊕ (b .z ⊖ a .z) ⊗ t) (a .r ⊕ (b .r ⊖ a .r) 
 abbrev pub apart : Vertex → Vertex → Float
 apart p q = hypot binary64 (p .z ⊖ q .z) (p .r ⊖ q .r)
 
-abbrev pub clamp01 : Float → Float
-clamp01 t = clamp t 𝟘 𝟙
+abbrev pub unitClamp : Float → Float
+unitClamp t = clamp t 𝟘 𝟙
 
 -- 01's closest point: of the segment from a to b, the point closest to p. Squared length ≤ 1e-24 uses the first end.
 unfoldable pub closest : Vertex → Vertex → Vertex → CollisionHit
 closest p a b =
     let d = minus b a in
-    let q = cond (dot d d ≼ e-24) a (along a b (clamp01 (dot (minus p a) d ⊘ dot d d))) in
+    let q = cond (dot d d ≼ e-24) a (along a b (unitClamp (dot (minus p a) d ⊘ dot d d))) in
     hit (apart p q) q
 
 abbrev pub places : Float → Float → Places
@@ -42,12 +42,12 @@ places s t = record { s = s; t = t }
 unfoldable pub closestPlaces : Float → Float → Float → Float → Float → Places
 closestPlaces a b c e f =
     let den = a ⊗ e ⊖ b ⊗ b in
-    let s = cond (e-18 ≺ abs den) (clamp01 ((b ⊗ f ⊖ c ⊗ e) ⊘ den)) 𝟘 in
+    let s = cond (e-18 ≺ abs den) (unitClamp ((b ⊗ f ⊖ c ⊗ e) ⊘ den)) 𝟘 in
     let t = (b ⊗ s ⊕ f) ⊘ e in
-    let atFirstEnd = places (clamp01 (neg c ⊘ a)) 𝟘 in
-    let atLastEnd = places (clamp01 ((b ⊖ c) ⊘ a)) 𝟙 in
+    let atFirstEnd = places (unitClamp (neg c ⊘ a)) 𝟘 in
+    let atLastEnd = places (unitClamp ((b ⊖ c) ⊘ a)) 𝟙 in
     cond (a ≼ e-24)
-    (cond (e ≼ e-24) (places 𝟘 𝟘) (places 𝟘 (clamp01 (f ⊘ e))))
+    (cond (e ≼ e-24) (places 𝟘 𝟘) (places 𝟘 (unitClamp (f ⊘ e))))
     (cond (e ≼ e-24) atFirstEnd
     (cond (t ≺ 𝟘) atFirstEnd
     (cond (𝟙 ≺ t) atLastEnd (places s t))))

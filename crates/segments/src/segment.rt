@@ -5,7 +5,7 @@ ghost use lib.Ieee.{neg};
 ghost use Rattle.arith.specs.F64.{_⊕_, _⊗_, _⊘_, _≺_, 𝟘, e-18};
 ghost use Rattle.arith.specs.Num as num;
 ghost use Rattle.profile.specs.Vertices.{vertex, hit, nearer};
-ghost use Rattle.segments.specs.Segments.{dot, along, apart, clamp01, closest};
+ghost use Rattle.segments.specs.Segments.{dot, along, apart, unitClamp, closest};
 ghost use Rattle.segments.specs.Segments.{places, closestPlaces, segments};
 use super::shapes::Places;
 use profile::CollisionHit;
@@ -83,7 +83,7 @@ pub fn closer_between(best: f64, p: Vertex, q: Vertex) -> f64
 }
 
 fn unit_clamp(t: f64) -> f64
-    ensures { λ r. ⌜ r ≡ clamp01 t ⌝ }
+    ensures { λ r. ⌜ r ≡ unitClamp t ⌝ }
 {
     arith::clamp(t, 0.0, 1.0)
 }
@@ -116,7 +116,7 @@ pub fn point_segment(p: Vertex, a: Vertex, b: Vertex, best: CollisionHit) -> Col
 
 // Where on the first segment to start: 0 where the two are nearly parallel.
 fn start_place(top: f64, denom: f64) -> f64
-    ensures { λ r. ⌜ r ≡ cond (e-18 ≺ num.abs denom) (clamp01 (top ⊘ denom)) 𝟘 ⌝ }
+    ensures { λ r. ⌜ r ≡ cond (e-18 ≺ num.abs denom) (unitClamp (top ⊘ denom)) 𝟘 ⌝ }
 {
     if arith::abs(denom) > 1e-18 {
         return unit_clamp(top / denom);
@@ -125,7 +125,7 @@ fn start_place(top: f64, denom: f64) -> f64
 }
 
 fn at_first_end(a: f64, c: f64) -> Places
-    ensures { λ r. ⌜ r ≡ places (clamp01 (neg c ⊘ a)) 𝟘 ⌝ }
+    ensures { λ r. ⌜ r ≡ places (unitClamp (neg c ⊘ a)) 𝟘 ⌝ }
 {
     Places {
         s: unit_clamp(-c / a),

@@ -1,5 +1,5 @@
 -- The chain's definition counts records down only to end: with more to count it gives the same. Idea: each record that is
--- passed is one more of the numbers below the count of records that the list of passed ones holds. Assumes nothing.
+-- passed is one more of the numbers below the count of records that the list of passed ones holds.
 use Prim.Native.Nat.{ℕ, zero, suc, _+_, _<_, _≤_}
 use native.Mathlib.Nat.{zero-add, suc-add}
 use native.Mathlib.Omega.{arith}

@@ -1,4 +1,4 @@
--- Lists that a loop goes through from the front, one element a turn. Assumes nothing.
+-- Lists that a loop goes through from the front, one element a turn.
 use Prim.Native.Nat.{ℕ, _+_, _<_, _≤_}
 use native.Mathlib.Numerals.{add-one}
 use native.Mathlib.Omega.{arith}

@@ -1,4 +1,4 @@
--- Which bit patterns are NaNs, by their magnitude. Assumes nothing.
+-- Which bit patterns are NaNs, by their magnitude.
 use Prim.Native.Nat.{ℕ, _*_, _%_, _^_, _≤_}
 use mathlib.Core.Bool.{Bool, not}
 use mathlib.Core.Path.{_≡_, refl, sym, subst}

@@ -66,14 +66,14 @@ whole-chain : (c : Chain) → linksAnswer c ≡ Accepted → c ≡ whole (inOrde
 whole-chain (whole ks) e = refl
 whole-chain (broken k) e = absurd (never e)
 
-pub record Sound (b : List ℕ) : Type 0 where
+pub record AcceptedStore (b : List ℕ) : Type 0 where
   pub some : 1 ≤ records b
   pub most : records b ≤ 512
   pub links : chain b ≡ whole (chained b)
   pub kinds : kindsAnswer b (chained b) ≡ Accepted
   pub section : sectionAnswer (vertices b (chained b)) ≡ Accepted
 
-pub accepted-sound : (b : List ℕ) → storeAnswer b ≡ Accepted → Sound b
+pub accepted-sound : (b : List ℕ) → storeAnswer b ≡ Accepted → AcceptedStore b
 unfolding storeAnswer chained
 accepted-sound b e =
     let first = both (lengthAnswer (length b)) _ e in

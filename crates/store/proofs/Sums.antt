@@ -1,5 +1,5 @@
 -- A chain passes each record at most once: a sum over its records is at most the sum over all numbers below the count.
--- By marks: what is added when a record is passed is what its mark adds. Assumes nothing.
+-- By marks: what is added when a record is passed is what its mark adds.
 use Prim.Native.Nat.{ℕ, zero, suc, _+_, _<_, _≤_}
 use native.Mathlib.Nat.{le-refl, eq-or-lt-of-le}
 use native.Mathlib.Omega.{arith}

@@ -1,5 +1,5 @@
 -- The chain: record 0's next leads to the first, next 0 ends it. It is broken where a next lies past the end or leads
--- to a record for the second time (13). Assumes nothing.
+-- to a record for the second time (13).
 use Prim.Native.Nat.{ℕ, zero, suc}
 use mathlib.Core.Bool.{Bool, _||_, cond}
 use mathlib.Core.List.{List, [], _∷_, _++_}

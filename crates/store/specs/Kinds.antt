@@ -1,4 +1,4 @@
--- The kinds: record 0 has kind 0, every other chained record is a vertex, a sphere or a box (14). Assumes nothing.
+-- The kinds: record 0 has kind 0, every other chained record is a vertex, a sphere or a box (14).
 use Prim.Native.Nat.{ℕ}
 use mathlib.Core.Bool.{Bool, _||_, cond}
 use mathlib.Core.List.{List, [], _∷_}

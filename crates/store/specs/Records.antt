@@ -1,4 +1,4 @@
--- The records of a store: 40 bytes each, next (u32), kind (u32), four f64. Assumes nothing.
+-- The records of a store: 40 bytes each, next (u32), kind (u32), four f64.
 use Prim.Native.Nat.{ℕ, _+_, _*_, _/_, _%_}
 use mathlib.Core.Bool.{Bool, _&&_}
 use mathlib.Core.List.{List}

@@ -14,7 +14,7 @@ use borrow.Author.Tests.{lt-ltb, le-ltb, ltb-false}
 use Rattle.arith.specs.F64.{𝟘}
 use Rattle.roots.proofs.Numbers.{decide}
 use Rattle.roots.proofs.Pattern.Special.{unlike-itself}
-use Rattle.store_listing.specs.Text.{digit, decimalUpTo, decimal, hex, bits}
+use Rattle.store_listing.specs.Text.{digit, decimalAtMost, decimal, hex, bits}
 use Rattle.store_listing.specs.Steps.{Written}
 use Rattle.store_listing.proofs.Writing.{room-first, room-next, nothing-written}
 
@@ -44,8 +44,8 @@ same-tens n {l} {m} h = go (ltb n 10) refl
     go true e = refl
     go false e = rw (h (ltb-false n 10 e))
 
-same-digits : (j k n : ℕ) → n ≤ j → n ≤ k → decimalUpTo j n ≡ decimalUpTo k n
-unfolding decimalUpTo
+same-digits : (j k n : ℕ) → n ≤ j → n ≤ k → decimalAtMost j n ≡ decimalAtMost k n
+unfolding decimalAtMost
 same-digits zero zero n hj hk = refl
 same-digits zero (suc k) n hj hk = rw (lt-ltb n 10 (omega arith))
 same-digits (suc j) zero n hj hk = rw (lt-ltb n 10 (omega arith))
@@ -53,12 +53,12 @@ same-digits (suc j) (suc k) n hj hk =
     same-tens n (λ large. same-digits j k (n / 10) (omega arith) (omega arith))
 
 pub decimal-one : (n : ℕ) → n < 10 → decimal n ≡ digit n ∷ []
-unfolding decimal decimalUpTo
+unfolding decimal decimalAtMost
 decimal-one zero h = refl
 decimal-one (suc n) h = rw (lt-ltb (suc n) 10 h)
 
 pub decimal-step : (n : ℕ) → 10 ≤ n → decimal n ≡ decimal (n / 10) ++ (digit (n % 10) ∷ [])
-unfolding decimal decimalUpTo
+unfolding decimal decimalAtMost
 decimal-step zero h = absurd (omega arith)
 decimal-step (suc n) h =
     rw (le-ltb (suc n) 10 h, same-digits n (suc n / 10) (suc n / 10) (omega arith) (omega arith))

@@ -9,10 +9,10 @@ use Rattle.arith.specs.Num.{isFinite}
 use Rattle.roots.specs.Roots.{hypot}
 use Rattle.profile.specs.Vertices.{upto, any}
 use Rattle.segments.specs.Segments.{closest, closestPlaces, segments}
-use Rattle.points.specs.Points.{surfaceStep, surfaceNear, crossing, oddCrossings, insideAxisEdge, inSection, pointDistance}
+use Rattle.points.specs.Points.{surfaceStep, surfaceNear, crosses, pointInside, insideAxisEdge, inSection, pointDistance}
 use Rattle.segments.specs.Clip.{clipSide, clip}
-use Rattle.boxes.specs.Boxes.{edgeBox, wellInside, crossesBox, boxGap, boxPenetration, boxWitness, boxHolds}
-use Rattle.points.specs.Overlap.{result}
+use Rattle.boxes.specs.Boxes.{edgeBox, strictlyInsideAabb, segmentThroughInterior, boxGap, boxPenetration, boxWitness, boxHolds}
+use Rattle.points.specs.Overlap.{resultOf}
 use Rattle.boxes.specs.Boxes.{boxDistance}
 use Rattle.profile.specs.Refusals.{anyOf, refusal}
 use Rattle.section.specs.Answers.{boxAnswer}
@@ -21,7 +21,7 @@ use Rattle.store.specs.Records.{rightLength, next, kind, number}
 use Rattle.store.specs.Chain.{follow, chain}
 use Rattle.store.specs.Kinds.{rightKind, kindsAnswer}
 use Rattle.store.specs.Store.{vertices, lengthAnswer, sectionAnswer, storeAnswer, chained}
-use Rattle.store_listing.specs.Text.{text, decimalUpTo, decimal, hex, bits}
+use Rattle.store_listing.specs.Text.{text, decimalAtMost, decimal, hex, bits}
 use Rattle.store_listing.specs.Listing.{bodyAnswer, fieldText, hitText, bodyLine, sectionLine, refusalLine, acceptedText, listing}
 
 -- the n low bytes of x, the lowest first
@@ -45,9 +45,9 @@ example =
 
 pub example-lists : listing example ≡ text "section 4\n5 4014000000000000 4034000000000000 0000000000000000\n"
 unfolding add sub mul div neg lt le eq ofInt ofBits toBits isFinite hypot upto any closest closestPlaces segments
-    surfaceStep surfaceNear crossing oddCrossings insideAxisEdge inSection pointDistance clipSide clip edgeBox
-    wellInside crossesBox boxGap boxPenetration boxWitness boxHolds result boxDistance anyOf refusal
+    surfaceStep surfaceNear crosses pointInside insideAxisEdge inSection pointDistance clipSide clip edgeBox
+    strictlyInsideAabb segmentThroughInterior boxGap boxPenetration boxWitness boxHolds resultOf boxDistance anyOf refusal
     boxAnswer littleEndian rightLength next kind number follow chain rightKind kindsAnswer vertices
-    lengthAnswer sectionAnswer storeAnswer chained text decimalUpTo decimal hex bits bodyAnswer fieldText hitText bodyLine sectionLine refusalLine
+    lengthAnswer sectionAnswer storeAnswer chained text decimalAtMost decimal hex bits bodyAnswer fieldText hitText bodyLine sectionLine refusalLine
     acceptedText listing lowBytes recordBytes example flatMap
 example-lists = refl

@@ -1,5 +1,5 @@
 -- An input that went into a buffer as far as it reaches is listed as the whole input: all of it is there, or it is longer
--- than every store, so that its length decides. Assumes nothing.
+-- than every store, so that its length decides.
 use Prim.Native.Nat.{ℕ, _/_, _%_, _<_, _≤_}
 use native.Mathlib.Omega.{arith}
 use mathlib.Core.Bool.{Bool, true, false, _&&_, cond, and-false}

@@ -20,7 +20,7 @@ use Rattle.roots.proofs.Numbers.{decide}
 use Rattle.store.specs.Records.{kind, number}
 use Rattle.store.specs.Kinds.{isSphere, rightKind, kindsAnswer}
 use Rattle.store.specs.Store.{vertexNumbers, vertices, storeAnswer, chained}
-use Rattle.store_listing.specs.Text.{text, decimalUpTo, decimal}
+use Rattle.store_listing.specs.Text.{text, decimalAtMost, decimal}
 use Rattle.store_listing.specs.Listing.{sphereAt, boxAt, bodyAnswer, answerText, bodyLine, recordLine}
 use Rattle.store_listing.specs.Listing.{sectionLine, acceptedText}
 use Rattle.store.specs.declared.answers.StoreAnswer.{StoreAnswer}
@@ -61,7 +61,7 @@ weight k = cond (eqb k 0) 0 (52 + length (decimal k))
 
 -- 27,997 bytes, if all 511 were bodies
 all-bodies : sumBelow weight 512 ≡ 27997
-unfolding sumBelow decimal decimalUpTo
+unfolding sumBelow decimal decimalAtMost
 all-bodies = refl
 
 -- by the kind d of record k, whose line would be `line` and whose index has w digits

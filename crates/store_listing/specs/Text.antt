@@ -1,4 +1,4 @@
--- Text as bytes: words, decimal numbers, and the bits of an f64 as 16 lower-case hexadecimal digits. Assumes nothing.
+-- Text as bytes: words, decimal numbers, and the bits of an f64 as 16 lower-case hexadecimal digits.
 use Prim.Native.Nat.{ℕ, zero, suc, _+_, _/_, _%_}
 use Prim.Native.Char.{code}
 use Prim.Native.String as string
@@ -19,13 +19,13 @@ abbrev pub digit : ℕ → ℕ
 digit d = cond (ltb d 10) (48 + d) (87 + d)
 
 -- n in decimal, with at most most + 1 digits
-unfoldable pub decimalUpTo : ℕ → ℕ → List ℕ
-decimalUpTo zero n = digit n ∷ []
-decimalUpTo (suc most) n = cond (ltb n 10) (digit n ∷ []) (decimalUpTo most (n / 10) ++ (digit (n % 10) ∷ []))
+unfoldable pub decimalAtMost : ℕ → ℕ → List ℕ
+decimalAtMost zero n = digit n ∷ []
+decimalAtMost (suc most) n = cond (ltb n 10) (digit n ∷ []) (decimalAtMost most (n / 10) ++ (digit (n % 10) ∷ []))
 
 -- n has at most n + 1 digits
 unfoldable pub decimal : ℕ → List ℕ
-decimal n = decimalUpTo n n
+decimal n = decimalAtMost n n
 
 -- the last k hexadecimal digits of n
 unfoldable pub hex : ℕ → ℕ → List ℕ

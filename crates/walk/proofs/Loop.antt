@@ -15,8 +15,8 @@ use Rattle.profile.specs.Vertices.{hit}
 use Rattle.profile.specs.declared.shapes.CollisionHit.{CollisionHit}
 use Rattle.walk.specs.Pieces.{piece, wholeWidth}
 use Rattle.walk.specs.Walk.{Walk, better, halved, halves, sampled, waiting, measured}
-use Rattle.walk.specs.Walk.{walk, walkAll, walked, pieces}
-use Rattle.walk.specs.Steps.{Room, Waits, Pushed, measuredOf}
+use Rattle.walk.specs.Walk.{walk, walkAll, walked}
+use Rattle.walk.specs.Steps.{pieces, Room, Waits, Pushed, measure}
 use Rattle.bands.specs.declared.shapes.RadialBand.{RadialBand}
 use Rattle.walk.specs.declared.shapes.Piece.{Piece}
 use Rattle.walk.specs.declared.shapes.Measured.{Measured}
@@ -127,7 +127,7 @@ module _ {s : List Float} {b : RadialBand} {tol : Float} {cap intervals : ℕ} w
           let f : S .fuel ≡ suc (cap - suc boxes) = omega (arith, S .budget) in
           step s b tol cap intervals w k n (S .fuel) (cap - suc boxes) now e f (S .ahead)
 
-      module _ {m : Measured} (e : m ≡ measuredOf s b p) {h : Bool}
+      module _ {m : Measured} (e : m ≡ measure s b p) {h : Bool}
           (t : h ≡ halved tol (m .hit) (m .variation) best p) where
         abbrev kept : List Piece
         kept = cond h (halves p (pieces w k)) (pieces w k)
@@ -146,7 +146,7 @@ module _ {s : List Float} {b : RadialBand} {tol : Float} {cap intervals : ℕ} w
             omega (arith, room)
 
         carry : (ps : List Piece) (x : Measured) (most′ : ℕ)
-            → ps ≡ next → x ≡ measuredOf s b p → most′ ≡ maxℕ most (length next)
+            → ps ≡ next → x ≡ measure s b p → most′ ≡ maxℕ most (length next)
             → walk s b tol (cap - suc boxes) ps
             (soFar (better (x .hit) (x .variation) best) (min least (x .hit .distance)) most′ (p ∷ S .seen))
             ≡ walkAll s b tol cap intervals

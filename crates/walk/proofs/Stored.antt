@@ -6,7 +6,7 @@ use mathlib.Core.Path.{_≡_, refl, ap}
 use lib.ListN.{length, set, length-set}
 use lib.Seq.{getD-set-same, getD-set-other}
 use lib.Ieee.{Float, nan}
-use Rattle.walk.specs.Walk.{pieces}
+use Rattle.walk.specs.Steps.{pieces}
 use Rattle.walk.specs.declared.shapes.Piece.{Piece}
 
 pub pieces-length : (w : List Float) (n : ℕ) → length (pieces w n) ≡ n

@@ -1,4 +1,4 @@
--- Demand 3: what 01 promises of the walk across the spindle, as one statement about the call's result. Assumes nothing.
+-- Demand 3: what 01 promises of the walk across the spindle, as one statement about the call's result.
 use Prim.Native.Nat.{ℕ, _≤_}
 use mathlib.Core.Path.{_≡_}
 use mathlib.Core.Logic.{_⊎_}
@@ -9,7 +9,7 @@ use lib.Dec.{T}
 use lib.Ieee.{Float, binary64, fits}
 use Rattle.arith.specs.F64.{_⊕_, _⊖_, _≺_, _≼_}
 use Rattle.bands.specs.Band.{halfWidth, spanAt}
-use Rattle.walk.specs.Pieces.{wholeWidth, boxOf, variation}
+use Rattle.walk.specs.Pieces.{wholeWidth, pieceBox, variation}
 use Rattle.walk.specs.Walk.{Walk, boxHit, sampled, left, reported}
 use Rattle.bands.specs.declared.shapes.RadialBand.{RadialBand}
 use Rattle.walk.specs.declared.shapes.Piece.{Piece}
@@ -25,10 +25,10 @@ module _ (s : List Float) (b : RadialBand) (tol : Float) (w : Walk) where
   pub record Covered (z : Float) : Type 0 where
     pub piece : Piece
     pub measured : List·Memᴰ piece (w .seen)
-    pub from : T (boxOf b piece .z0 ≼ z)
-    pub to : T (z ≼ boxOf b piece .z1)
-    pub inner : T (boxOf b piece .r0 ≼ spanAt b (halfWidth b z) .lo)
-    pub outer : T (spanAt b (halfWidth b z) .hi ≼ boxOf b piece .r1)
+    pub from : T (pieceBox b piece .z0 ≼ z)
+    pub to : T (z ≼ pieceBox b piece .z1)
+    pub inner : T (pieceBox b piece .r0 ≼ spanAt b (halfWidth b z) .lo)
+    pub outer : T (spanAt b (halfWidth b z) .hi ≼ pieceBox b piece .r1)
     pub settled :
         T (reported w ≺ boxHit s b piece .distance)
         ⊎ (T ((variation b piece ≼ tol) || (piece .z1 ⊖ piece .z0 ≼ tol))

@@ -1,4 +1,4 @@
--- A piece of the cylinder's width: its box and its variation. Assumes nothing.
+-- A piece of the cylinder's width: its box and its variation.
 use lib.Ieee.{Float}
 use Rattle.arith.specs.F64.{_⊕_, _⊖_, 𝟘}
 use Rattle.arith.specs.Num.{min, max, clamp}
@@ -27,8 +27,8 @@ abbrev pub spansOf : RadialBand → Piece → Spans
 spansOf b p = record { widest = widest b p; narrowest = narrowest b p }
 
 -- the box: its z range is the piece, its radial range joins the two spans
-abbrev pub boxFrom : Piece → Spans → Aabb
-boxFrom p x =
+abbrev pub boxOf : Piece → Spans → Aabb
+boxOf p x =
     record {
       z0 = p .z0;
       z1 = p .z1;
@@ -36,15 +36,15 @@ boxFrom p x =
       r1 = max (x .widest .hi) (x .narrowest .hi);
     }
 
-unfoldable pub boxOf : RadialBand → Piece → Aabb
-boxOf b p = boxFrom p (spansOf b p)
+unfoldable pub pieceBox : RadialBand → Piece → Aabb
+pieceBox b p = boxOf p (spansOf b p)
 
 -- variation: the larger of how far the lower ends and how far the upper ends of the two spans lie apart, at least 0
-abbrev pub variationFrom : Spans → Float
-variationFrom x =
+abbrev pub variationOf : Spans → Float
+variationOf x =
     let w = x .widest in
     let n = x .narrowest in
     max (max (max (w .lo) (n .lo) ⊖ min (w .lo) (n .lo)) (max (w .hi) (n .hi) ⊖ min (n .hi) (w .hi))) 𝟘
 
 unfoldable pub variation : RadialBand → Piece → Float
-variation b p = variationFrom (spansOf b p)
+variation b p = variationOf (spansOf b p)

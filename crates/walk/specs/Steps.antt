@@ -1,27 +1,27 @@
 -- What the functions below the entry points compute on the way, and what they ask of the walk's array.
-use Prim.Native.Nat.{ℕ, _+_, _≤_}
+use Prim.Native.Nat.{ℕ, zero, suc, _+_, _*_, _≤_}
 use mathlib.Core.Bool.{Bool, true}
-use mathlib.Core.List.{List, _∷_}
+use mathlib.Core.List.{List, [], _∷_}
 use mathlib.Core.Path.{_≡_}
-use lib.ListN.{length}
-use lib.Ieee.{Float}
+use lib.ListN.{length, getD}
+use lib.Ieee.{Float, nan}
 use Rattle.arith.specs.F64.{e-9}
 use Rattle.profile.specs.Vertices.{count, nearestOf}
 use Rattle.points.specs.Points.{pointDistance}
 use Rattle.profile.specs.declared.shapes.CollisionHit.{CollisionHit}
-use Rattle.walk.specs.Pieces.{variation}
-use Rattle.walk.specs.Walk.{sampleAt, boxHit, pieces, walkAll}
+use Rattle.walk.specs.Pieces.{piece, variation}
+use Rattle.walk.specs.Walk.{sampleVertex, boxHit, walkAll}
 use Rattle.bands.specs.declared.shapes.RadialBand.{RadialBand}
 use Rattle.walk.specs.declared.shapes.Piece.{Piece}
 use Rattle.walk.specs.declared.shapes.Measured.{Measured}
 
 -- the three samples at z, against the best so far
-abbrev pub samplesAt : List Float → RadialBand → Float → CollisionHit → CollisionHit
-samplesAt s b z best = nearestOf (λ j. pointDistance s (sampleAt b z j)) best 3
+abbrev pub sampleAt : List Float → RadialBand → Float → CollisionHit → CollisionHit
+sampleAt s b z best = nearestOf (λ j. pointDistance s (sampleVertex b z j)) best 3
 
 -- the distance of a piece's box, and its variation
-abbrev pub measuredOf : List Float → RadialBand → Piece → Measured
-measuredOf s b p = record { hit = boxHit s b p; variation = variation b p }
+abbrev pub measure : List Float → RadialBand → Piece → Measured
+measure s b p = record { hit = boxHit s b p; variation = variation b p }
 
 -- the pieces that wait at any one time fit into the array of 54
 abbrev pub Room : List Float → RadialBand → Float → ℕ → ℕ → Type 0
@@ -34,6 +34,11 @@ pub record Walkable (s : List Float) (b : RadialBand) (tol : Float) (cap n : ℕ
 
 abbrev pub BandRoom : List Float → RadialBand → Type 0
 BandRoom s b = Room s b e-9 8192 16
+
+-- the first n pieces of the flat array of start and end, the last one first
+unfoldable pub pieces : List Float → ℕ → List Piece
+pieces w zero = []
+pieces w (suc n) = piece (getD w (2 * n) nan) (getD w (2 * n + 1) nan) ∷ pieces w n
 
 -- in the array w, of 54 pieces, the first n wait, and they are ps
 pub record Waits (ps : List Piece) (w : List Float) (n : ℕ) : Type 0 where

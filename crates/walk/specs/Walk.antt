@@ -1,11 +1,11 @@
 -- 01's walk over the pieces of a cylinder across the spindle. The tolerance is 1e-9, the cap 8,192 and the number n of sample
--- intervals 16 in document 01. Assumes nothing.
-use Prim.Native.Nat.{ℕ, zero, suc, _+_, _*_, max as maxℕ}
+-- intervals 16 in document 01.
+use Prim.Native.Nat.{ℕ, zero, suc, _+_, max as maxℕ}
 use mathlib.Core.Bool.{Bool, true, false, not, _&&_, cond}
 use mathlib.Core.List.{List, [], _∷_}
-use lib.ListN.{length, getD}
+use lib.ListN.{length}
 use lib.IntN.{pos}
-use lib.Ieee.{Float, nan, binary64, ofInt}
+use lib.Ieee.{Float, binary64, ofInt}
 use Rattle.arith.specs.F64.{_⊕_, _⊖_, _⊗_, _⊘_, _≺_, _≼_, 𝟘, ∞, e-9, e-12, e-15}
 use Rattle.arith.specs.Num.{min}
 use Rattle.profile.specs.Vertices.{vertex, hit, upto, nearer, nearestOf}
@@ -15,7 +15,7 @@ use Rattle.profile.specs.declared.shapes.Vertex.{Vertex}
 use Rattle.profile.specs.declared.shapes.CollisionHit.{CollisionHit}
 use Rattle.profile.specs.declared.shapes.Aabb.{Aabb}
 use Rattle.bands.specs.Band.{mean, halfWidth, spanAt}
-use Rattle.walk.specs.Pieces.{piece, wholeWidth, boxOf, variation}
+use Rattle.walk.specs.Pieces.{piece, wholeWidth, pieceBox, variation}
 use Rattle.bands.specs.declared.shapes.RadialBand.{RadialBand}
 use Rattle.walk.specs.declared.shapes.Piece.{Piece}
 use Rattle.walk.specs.declared.shapes.CountedHit.{CountedHit}
@@ -23,8 +23,8 @@ use Rattle.walk.specs.declared.shapes.CountedHit.{CountedHit}
 -- ---- the starting distance
 
 -- at z the least, the greatest and the mean radius, in this order
-unfoldable pub sampleAt : RadialBand → Float → ℕ → Vertex
-sampleAt b z j =
+unfoldable pub sampleVertex : RadialBand → Float → ℕ → Vertex
+sampleVertex b z j =
     let r = spanAt b (halfWidth b z) in
     vertex z (choose j (r .lo) (r .hi) (mean (r .lo) (r .hi)))
   where
@@ -76,12 +76,12 @@ module _ (s : List Float) (b : RadialBand) where
   -- strictly smallest first, over the samples in order
   unfoldable pub sampled : ℕ → CollisionHit
   sampled n =
-      upto (λ i best. nearestOf (λ j. pointDistance s (sampleAt b (sampleZ b n i) j)) best 3)
+      upto (λ i best. nearestOf (λ j. pointDistance s (sampleVertex b (sampleZ b n i) j)) best 3)
       (hit ∞ (vertex (b .zc) 𝟘)) (suc n)
 
   -- the box of a piece is measured
   abbrev pub boxHit : Piece → CollisionHit
-  boxHit p = boxDistance s (boxOf b p)
+  boxHit p = boxDistance s (pieceBox b p)
 
   module _ (tol : Float) where
     -- what waits when piece p, taken from before ps, has gone through
@@ -138,8 +138,3 @@ thinBox b = let r = spanAt b 𝟘 in record { z0 = b .zc; z1 = b .zc; r0 = r .lo
 unfoldable pub bandDistance : List Float → RadialBand → CountedHit
 bandDistance s b =
     cond (b .radius ≼ e-15) (oneBox (boxDistance s (thinBox b))) (walked (walkAll s b e-9 8192 16))
-
--- the first n pieces of the flat array of start and end, the last one first
-unfoldable pub pieces : List Float → ℕ → List Piece
-pieces w zero = []
-pieces w (suc n) = piece (getD w (2 * n) nan) (getD w (2 * n + 1) nan) ∷ pieces w n

@@ -3,8 +3,8 @@ ghost use mathlib.Core.Path.{_≡_};
 ghost use Prim.Native.Nat.{_≤_};
 ghost use Rattle.profile.specs.Vertices.{count};
 ghost use Rattle.walk.specs.Pieces as pieces;
-ghost use Rattle.walk.specs.Pieces.{spansOf, boxFrom, variationFrom};
-ghost use Rattle.walk.specs.Steps.{measuredOf};
+ghost use Rattle.walk.specs.Pieces.{spansOf, boxOf, variationOf};
+ghost use Rattle.walk.specs.Steps.{measure};
 use super::shapes::Measured;
 use super::shapes::Piece;
 use super::shapes::Spans;
@@ -31,7 +31,7 @@ fn spans_of(b: RadialBand, p: Piece) -> Spans
 }
 
 fn box_of(p: Piece, spans: Spans) -> Aabb
-    ensures { λ r. ⌜ r ≡ boxFrom p spans ⌝ }
+    ensures { λ r. ⌜ r ≡ boxOf p spans ⌝ }
 {
     let w = spans.widest;
     let n = spans.narrowest;
@@ -44,7 +44,7 @@ fn box_of(p: Piece, spans: Spans) -> Aabb
 }
 
 fn variation_of(spans: Spans) -> f64
-    ensures { λ r. ⌜ r ≡ variationFrom spans ⌝ }
+    ensures { λ r. ⌜ r ≡ variationOf spans ⌝ }
 {
     let w = spans.widest;
     let n = spans.narrowest;
@@ -56,7 +56,7 @@ fn variation_of(spans: Spans) -> f64
 // The distance of the piece's box, and the piece's variation.
 pub fn measure(s: &[f64], b: RadialBand, p: Piece) -> Measured
     requires { ⌜ 3 ≤ count (now s) ⌝ }
-    ensures { λ r. ⌜ r ≡ measuredOf (now (s .entry)) b p ⌝ }
+    ensures { λ r. ⌜ r ≡ measure (now (s .entry)) b p ⌝ }
 {
     let spans = spans_of(b, p);
     let hit = box_distance(s, box_of(p, spans));

@@ -3,7 +3,7 @@ ghost use mathlib.Core.Path.{_≡_};
 ghost use Prim.Native.Nat.{_≤_};
 ghost use Rattle.profile.specs.Vertices.{count};
 ghost use Rattle.walk.specs.Walk as walk;
-ghost use Rattle.walk.specs.Steps.{samplesAt};
+ghost use Rattle.walk.specs.Steps.{sampleAt};
 use super::pieces::whole_width;
 use bands::RadialBand;
 use points::signed_distance_2d;
@@ -14,7 +14,7 @@ use profile::nearer_of;
 // At z the least, the greatest and the mean radius, against the best so far.
 fn sample_at(s: &[f64], b: RadialBand, z: f64, best: CollisionHit) -> CollisionHit
     requires { ⌜ 3 ≤ count (now s) ⌝ }
-    ensures { λ r. ⌜ r ≡ samplesAt (now (s .entry)) b z best ⌝ }
+    ensures { λ r. ⌜ r ≡ sampleAt (now (s .entry)) b z best ⌝ }
 {
     let span = b.span_at_z(z);
     let mean = (span.lo + span.hi) * 0.5;

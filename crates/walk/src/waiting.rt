@@ -3,8 +3,8 @@ ghost use mathlib.Core.Path.{_≡_};
 ghost use mathlib.Core.Bool.{cond};
 ghost use Prim.Native.Nat.{_<_};
 ghost use lib.ListN.{length};
-ghost use Rattle.walk.specs.Walk.{halves, pieces};
-ghost use Rattle.walk.specs.Steps.{Pushed, HalvesRoom, Waits};
+ghost use Rattle.walk.specs.Walk.{halves};
+ghost use Rattle.walk.specs.Steps.{pieces, Pushed, HalvesRoom, Waits};
 use super::shapes::Piece;
 
 // Piece p waits above the first n; the number that then wait.

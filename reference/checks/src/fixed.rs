@@ -13,8 +13,9 @@ const CUT: usize = 12;
 const NEAR: usize = 12;
 /// Refusals of each kind with each number.
 const REFUSALS: usize = 3;
-/// Most numbers in the lists of a small query, of which there are many, and of any query.
+/// Most numbers in the lists of a small query, of which there are many; a large query has more than `LARGE`.
 const SMALL: usize = 24;
+const LARGE: usize = 128;
 const LARGEST: usize = 600;
 
 /// The numbers that a kind can be refused with.
@@ -64,16 +65,13 @@ fn readings() -> Vec<Query> {
         Query::builder(Kind::Section, vec![0.0, 10.0, 20.0], 8),
         Query::builder(Kind::Polygon, vec![0.0, -1.0, 1.0, 1.0, 2.0, 0.0, 0.0, -1.0], 8),
     ];
-    if cfg!(feature = "cylinders") {
-        all.extend(cylinders().map(|numbers| query(Kind::Cylinder, &numbers)));
-        let sphere = |clearance| query(Kind::VerdictSphere, &[0.0, 0.0, 30.0, 4.0, clearance]);
-        all.extend([6.0, 6.0 + 1e-9, 6.0 + 2e-9, -1.0, 1_048_576.0, 1_048_577.0, f64::INFINITY, f64::NAN].map(sphere));
-        let far = [1.0, 2.0, 3.0, 0.5, 1_048_576.0];
-        all.push(Query::new(Kind::VerdictSphere, std::slice::from_ref(&axis), &far));
-        let bar = |clearance| query(Kind::VerdictCylinder, &[12.0, 0.0, 10.0, 30.0, 0.0, 10.0, 2.0, clearance]);
-        all.extend([2.0, 2.0 + 2e-9].map(bar));
-        all.push(query(Kind::VerdictCylinder, &[0.0, 0.0, 0.0, 1.0, 0.0, 1.0, -1.0, f64::NAN]));
-    }
+    all.extend(cylinders().map(|numbers| query(Kind::Cylinder, &numbers)));
+    let sphere = |clearance| query(Kind::VerdictSphere, &[0.0, 0.0, 30.0, 4.0, clearance]);
+    all.extend([6.0, 6.0 + 1e-9, 6.0 + 2e-9, -1.0, 1_048_576.0, 1_048_577.0, f64::INFINITY, f64::NAN].map(sphere));
+    all.push(Query::new(Kind::VerdictSphere, std::slice::from_ref(&axis), &[1.0, 2.0, 3.0, 0.5, 1_048_576.0]));
+    let bar = |clearance| query(Kind::VerdictCylinder, &[12.0, 0.0, 10.0, 30.0, 0.0, 10.0, 2.0, clearance]);
+    all.extend([2.0, 2.0 + 2e-9].map(bar));
+    all.push(query(Kind::VerdictCylinder, &[0.0, 0.0, 0.0, 1.0, 0.0, 1.0, -1.0, f64::NAN]));
     all
 }
 
@@ -124,16 +122,25 @@ pub fn queries(seed: u64) -> Vec<Query> {
     all
 }
 
+/// How many small queries, large ones and cut walks are drawn of a kind.
+fn shares(kind: Kind) -> (usize, usize, usize) {
+    match kind {
+        Kind::Sqrt | Kind::Hypot => (RANDOM, 0, 0),
+        Kind::Point | Kind::Sphere | Kind::Box | Kind::Convex | Kind::Section | Kind::Polygon => (RANDOM, 1, 0),
+        Kind::Cylinder => (RANDOM, 0, CUT),
+        Kind::VerdictSphere | Kind::VerdictBox | Kind::VerdictCylinder | Kind::VerdictConvex => (VERDICTS, 0, 0),
+    }
+}
+
 /// Small queries, a large one where the kind has them, walks that are cut, and every refusal.
 fn drawn(random: &mut Random, kind: Kind) -> Vec<Query> {
     let (mut all, mut refused) = (Vec::new(), BTreeMap::new());
-    let (mut small, mut large) = (0, matches!(kind, Kind::Sqrt | Kind::Hypot) || kind >= Kind::Cylinder);
+    let (most_small, most_large, most_cut) = shares(kind);
+    let (mut small, mut large, mut cut) = (0, 0, 0);
     let complete = |refused: &BTreeMap<u32, usize>| {
         refusals(kind).iter().all(|number| refused.get(number).is_some_and(|&count| count >= REFUSALS))
     };
-    let most = if kind > Kind::Cylinder { VERDICTS } else { RANDOM };
-    let mut cut = if kind == Kind::Cylinder { 0 } else { CUT };
-    while small < most || cut < CUT || !large || !complete(&refused) {
+    while small < most_small || large < most_large || cut < most_cut || !complete(&refused) {
         let query = generate::query(random, kind);
         let numbers = query.lists.iter().map(Vec::len).sum::<usize>();
         let keep = match judge::expected(&query) {
@@ -145,17 +152,17 @@ fn drawn(random: &mut Random, kind: Kind) -> Vec<Query> {
             }
             answer if answer.cut() => {
                 cut += 1;
-                cut <= CUT
+                cut <= most_cut
             }
             _ if numbers <= SMALL => {
                 small += 1;
-                small <= most
+                small <= most_small
             }
-            _ => {
-                let first = !large && numbers > 128;
-                large |= first;
-                first
+            _ if numbers > LARGE => {
+                large += 1;
+                large <= most_large
             }
+            _ => false,
         };
         if keep {
             all.push(query);

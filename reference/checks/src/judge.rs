@@ -45,10 +45,10 @@ fn answer(query: &Query) -> Option<Answer> {
     match query.kind {
         Kind::Sqrt => Some(Answer::Values(vec![exact_hypot::sqrt(query.numbers[0])])),
         Kind::Hypot => Some(Answer::Values(vec![exact_hypot::hypot(query.numbers[0], query.numbers[1])])),
-        Kind::Point | Kind::Sphere | Kind::Box | Kind::Convex => {
-            let (distance, witness) = hit(query)?;
-            Some(Answer::Values(vec![distance, witness.0, witness.1]))
-        }
+        Kind::Point => point(query).map(values),
+        Kind::Sphere => sphere(query).map(values),
+        Kind::Box => rectangle(query).map(values),
+        Kind::Convex => convex(query).map(values),
         Kind::Section => built(query, table::build_section, RevolvedSolid::try_from_section),
         Kind::Polygon => built(query, table::build_polygon, RevolvedSolid::try_from_polygon),
         Kind::Cylinder => {
@@ -56,29 +56,34 @@ fn answer(query: &Query) -> Option<Answer> {
             let counts = [trace.boxes, trace.waiting, u32::from(trace.cut)];
             Some(Answer::Walked([distance, witness.0, witness.1], counts))
         }
+        Kind::VerdictSphere => verdict(query, sphere(query)?.0),
+        Kind::VerdictBox => verdict(query, rectangle(query)?.0),
         Kind::VerdictCylinder => verdict(query, cylinder(query)?.0.0),
-        Kind::VerdictSphere | Kind::VerdictBox | Kind::VerdictConvex => verdict(query, hit(query)?.0),
+        Kind::VerdictConvex => verdict(query, convex(query)?.0),
     }
 }
 
-/// Point, sphere, box and convex body.
-fn hit(query: &Query) -> Option<Hit> {
-    let list = |i: usize| vertices(&query.lists[i]);
-    match query.kind {
-        Kind::Point => {
-            let [x, y, z] = query.array();
-            probe::point(&probe::solid(&list(0)), Vec3::new(x, y, z))
-        }
-        Kind::Sphere | Kind::VerdictSphere => {
-            let [x, y, z, radius] = query.array();
-            probe::sphere(&probe::solid(&list(0)), Sphere { center: Vec3::new(x, y, z), radius })
-        }
-        Kind::Box | Kind::VerdictBox => {
-            let [z0, z1, r0, r1] = query.array();
-            aabb_polygon_distance(z0, z1, r0, r1, &list(0))
-        }
-        _ => convex_polygon_distance(&list(0), &list(1)),
-    }
+fn values((distance, (witness_z, witness_radius)): Hit) -> Answer {
+    Answer::Values(vec![distance, witness_z, witness_radius])
+}
+
+fn point(query: &Query) -> Option<Hit> {
+    let [x, y, z] = query.array();
+    probe::point(&probe::solid(&vertices(&query.lists[0])), Vec3::new(x, y, z))
+}
+
+fn sphere(query: &Query) -> Option<Hit> {
+    let [x, y, z, radius] = query.array();
+    probe::sphere(&probe::solid(&vertices(&query.lists[0])), Sphere { center: Vec3::new(x, y, z), radius })
+}
+
+fn rectangle(query: &Query) -> Option<Hit> {
+    let [z0, z1, r0, r1] = query.array();
+    aabb_polygon_distance(z0, z1, r0, r1, &vertices(&query.lists[0]))
+}
+
+fn convex(query: &Query) -> Option<Hit> {
+    convex_polygon_distance(&vertices(&query.lists[0]), &vertices(&query.lists[1]))
 }
 
 fn cylinder(query: &Query) -> Option<(Hit, traced::trace::Trace)> {
@@ -98,26 +103,32 @@ pub fn space(query: &Query) -> Vec<f64> {
     vec![f64::from_bits(FILL); query.space]
 }
 
+/// The builders of the table and of the Rust.
+type BuildByTable = fn(&[f64], &[f64]) -> Result<table::Built, u32>;
+type BuildByRust = fn(&[(f64, f64)]) -> Option<RevolvedSolid>;
+
+fn built_by_rust(query: &Query, rust: BuildByRust) -> Option<RevolvedSolid> {
+    rust(&vertices(&query.lists[0]))
+}
+
 /// The table's result, provided that the Rust keeps the same vertices.
-fn built(
-    query: &Query,
-    table: fn(&[f64], &[f64]) -> Result<table::Built, u32>,
-    rust: fn(&[(f64, f64)]) -> Option<RevolvedSolid>,
-) -> Option<Answer> {
+fn built(query: &Query, table: BuildByTable, rust: BuildByRust) -> Option<Answer> {
     let built = table(&query.lists[0], &space(query)).ok()?;
-    let solid = rust(&vertices(&query.lists[0]))?;
+    let solid = built_by_rust(query, rust)?;
     let kept = vertices(&built.space[..built.kept]);
     assert_eq!(kept, probe::vertices(&solid), "table and Rust keep other points: {}", query.line());
     Some(Answer::Built(built.kept, built.space))
 }
 
-/// The refusals that the Rust has too.
+/// Whether the Rust refuses too, where it has the same refusal.
 fn rust_refuses(query: &Query, number: u32) -> bool {
-    match (query.kind, number) {
-        (Kind::Section, 6 | 8) => RevolvedSolid::try_from_section(&vertices(&query.lists[0])).is_none(),
-        (Kind::Polygon, 8) => RevolvedSolid::try_from_polygon(&vertices(&query.lists[0])).is_none(),
-        (Kind::Box, 10) | (Kind::Sphere, 9) => hit(query).is_none(),
-        (Kind::Cylinder, 11) => cylinder(query).is_none(),
-        _ => true,
+    match query.kind {
+        Kind::Section => ![6, 8].contains(&number) || built_by_rust(query, RevolvedSolid::try_from_section).is_none(),
+        Kind::Polygon => number != 8 || built_by_rust(query, RevolvedSolid::try_from_polygon).is_none(),
+        Kind::Sphere => number != 9 || sphere(query).is_none(),
+        Kind::Box => number != 10 || rectangle(query).is_none(),
+        Kind::Cylinder => number != 11 || cylinder(query).is_none(),
+        Kind::Sqrt | Kind::Hypot | Kind::Point | Kind::Convex => true,
+        Kind::VerdictSphere | Kind::VerdictBox | Kind::VerdictCylinder | Kind::VerdictConvex => true,
     }
 }

@@ -2,57 +2,62 @@
 
 use std::fmt::Write;
 
-#[derive(Clone, Copy, Debug, PartialEq, Eq, PartialOrd, Ord, Hash)]
-pub enum Kind {
-    Sqrt,
-    Hypot,
-    Point,
-    Sphere,
-    Box,
-    Convex,
-    Section,
-    Polygon,
-    Cylinder,
-    VerdictSphere,
-    VerdictBox,
-    VerdictCylinder,
-    VerdictConvex,
+/// Every kind, its letters in the list, how many lists it takes and how many numbers after them.
+macro_rules! kinds {
+    ($(($kind:ident, $letters:literal, $lists:literal, $numbers:literal),)*) => {
+        #[derive(Clone, Copy, Debug, PartialEq, Eq, PartialOrd, Ord)]
+        pub enum Kind {
+            $($kind,)*
+        }
+
+        const KINDS: &[(Kind, &str, usize, usize)] = &[$((Kind::$kind, $letters, $lists, $numbers),)*];
+    };
 }
 
-/// Every kind, its letters in the list, how many lists it takes and how many numbers after them.
-const KINDS: [(Kind, &str, usize, usize); 13] = [
-    (Kind::Sqrt, "r", 0, 1),
-    (Kind::Hypot, "h", 0, 2),
-    (Kind::Point, "p", 1, 3),
-    (Kind::Sphere, "s", 1, 4),
-    (Kind::Box, "b", 1, 4),
-    (Kind::Convex, "c", 2, 0),
-    (Kind::Section, "S", 1, 0),
-    (Kind::Polygon, "P", 1, 0),
-    (Kind::Cylinder, "y", 1, 7),
-    (Kind::VerdictSphere, "vs", 1, 5),
-    (Kind::VerdictBox, "vb", 1, 5),
-    (Kind::VerdictCylinder, "vy", 1, 8),
-    (Kind::VerdictConvex, "vc", 2, 1),
+kinds![
+    (Sqrt, "r", 0, 1),
+    (Hypot, "h", 0, 2),
+    (Point, "p", 1, 3),
+    (Sphere, "s", 1, 4),
+    (Box, "b", 1, 4),
+    (Convex, "c", 2, 0),
+    (Section, "S", 1, 0),
+    (Polygon, "P", 1, 0),
+    (Cylinder, "y", 1, 7),
+    (VerdictSphere, "vs", 1, 5),
+    (VerdictBox, "vb", 1, 5),
+    (VerdictCylinder, "vy", 1, 8),
+    (VerdictConvex, "vc", 2, 1),
 ];
 
 impl Kind {
-    /// The kinds that the linked archive has.
     pub fn all() -> Vec<Kind> {
-        let count = if cfg!(feature = "cylinders") { 13 } else { 8 };
-        KINDS[..count].iter().map(|entry| entry.0).collect()
-    }
-
-    fn entry(self) -> &'static (Kind, &'static str, usize, usize) {
-        KINDS.iter().find(|entry| entry.0 == self).expect("every kind is listed")
+        KINDS.iter().map(|entry| entry.0).collect()
     }
 
     pub fn letters(self) -> &'static str {
-        self.entry().1
+        KINDS[self as usize].1
     }
 
     pub fn is_builder(self) -> bool {
-        matches!(self, Kind::Section | Kind::Polygon)
+        match self {
+            Kind::Section | Kind::Polygon => true,
+            Kind::Sqrt | Kind::Hypot => false,
+            Kind::Point | Kind::Sphere | Kind::Box | Kind::Convex | Kind::Cylinder => false,
+            Kind::VerdictSphere | Kind::VerdictBox | Kind::VerdictCylinder | Kind::VerdictConvex => false,
+        }
+    }
+
+    /// The query whose distance a verdict judges.
+    pub fn judged(self) -> Option<Kind> {
+        match self {
+            Kind::VerdictSphere => Some(Kind::Sphere),
+            Kind::VerdictBox => Some(Kind::Box),
+            Kind::VerdictCylinder => Some(Kind::Cylinder),
+            Kind::VerdictConvex => Some(Kind::Convex),
+            Kind::Sqrt | Kind::Hypot | Kind::Section | Kind::Polygon => None,
+            Kind::Point | Kind::Sphere | Kind::Box | Kind::Convex | Kind::Cylinder => None,
+        }
     }
 }
 
@@ -69,7 +74,10 @@ pub struct Query {
 }
 
 impl Query {
+    /// With as many lists and numbers as the kind takes.
     pub fn new(kind: Kind, lists: &[Vec<f64>], numbers: &[f64]) -> Query {
+        let (_, _, list_count, number_count) = KINDS[kind as usize];
+        assert_eq!((lists.len(), numbers.len()), (list_count, number_count), "{kind:?}");
         Query { kind, lists: lists.to_vec(), numbers: numbers.to_vec(), space: 0 }
     }
 
@@ -98,9 +106,9 @@ impl Query {
         let mut fields = line.split(' ');
         let letters = fields.next()?;
         let &(kind, _, lists, numbers) = KINDS.iter().find(|entry| entry.1 == letters)?;
-        let mut query = Query::new(kind, &[], &[]);
         let number =
             |fields: &mut std::str::Split<char>| Some(f64::from_bits(u64::from_str_radix(fields.next()?, 16).ok()?));
+        let mut query = Query { kind, lists: Vec::new(), numbers: Vec::new(), space: 0 };
         for _ in 0..lists {
             let count = usize::from_str_radix(fields.next()?, 16).ok()?;
             query.lists.push((0..count).map(|_| number(&mut fields)).collect::<Option<_>>()?);

@@ -35,7 +35,7 @@ pub fn listing(store: &[u8]) -> String {
 }
 
 fn accepted(store: &[u8]) -> Result<String, Refusal> {
-    if store.is_empty() || store.len() % RECORD != 0 || store.len() > MOST_RECORDS * RECORD {
+    if store.is_empty() || !store.len().is_multiple_of(RECORD) || store.len() > MOST_RECORDS * RECORD {
         return Err((12, 0));
     }
     let records: Vec<Record> = store.chunks(RECORD).map(record).collect();

@@ -78,11 +78,6 @@ fn axial_or_radial(body: [f64; 7]) -> bool {
     z >= 1.0 - 1e-8 || z <= 1e-8 && x >= 1.0 - 1e-8
 }
 
-/// Collision exactly when distance + 1e-9 < clearance.
-pub fn collision(distance: f64, clearance: f64) -> bool {
-    distance + 1e-9 < clearance
-}
-
 #[cfg(test)]
 mod tests {
     use super::*;

@@ -17,7 +17,7 @@ use Rattle.profile.proofs.Refusals.Ordered.{Passes, refusal-append}
 use Rattle.profile.proofs.Refusals.Passed.{counted, taken}
 use Rattle.profile.proofs.Replies.{refused}
 use Rattle.builders.specs.Builder.{sectionOf, polygonOf}
-use Rattle.builders.specs.Kept.{told, belowAxis, sectionOwn, polygonOwn, sectionAnswer, polygonAnswer}
+use Rattle.builders.specs.Kept.{told, anyBelowAxis, sectionOwn, polygonOwn, sectionAnswer, polygonAnswer}
 use Rattle.builders.specs.Steps.{threeKept}
 use Rattle.builders.specs.declared.shapes.Kept.{Kept}
 use Rattle.builders.proofs.Builders.Kept.{three-answer, accepted}
@@ -41,7 +41,7 @@ module _ (s space : List Float) where
   polygon-listed e = by-list 3 256 s (polygonOwn s space) _ e
 
   -- no number of the list applies
-  module _ {n : ℕ} (e : n ≡ refusal (listTests 2 254 s)) (z : n ≡ 0) {t : Bool} (f : t ≡ belowAxis s) where
+  module _ {n : ℕ} (e : n ≡ refusal (listTests 2 254 s)) (z : n ≡ 0) {t : Bool} (f : t ≡ anyBelowAxis s) where
     section-own : sectionAnswer s space ≡ reply (refusal (sectionOwn s space)) (length (sectionOf s))
     unfolding sectionAnswer
     section-own = by-own 2 254 s (sectionOwn s space) _ e z

@@ -12,7 +12,7 @@ use lib.Ieee.{Float}
 use Rattle.arith.specs.F64.{𝟘}
 use Rattle.profile.specs.Vertices.{vertex, count, vertexAt}
 use Rattle.builders.specs.Builder.{samePoint, lastOf, keep, sectionPoints, sectionOf, polygonPoints, polygonOf}
-use Rattle.builders.specs.Steps.{pointOf, keptPoints, runOf, pushed, pushedSpace, upTo}
+use Rattle.builders.specs.Steps.{pointAt, keptPoints, runOf, pushed, pushedSpace, frontKept}
 use Rattle.builders.specs.declared.builder.Run.{Run}
 use Rattle.profile.specs.declared.shapes.Vertex.{Vertex}
 use Rattle.builders.proofs.Builders.Keep.{Whole, next-keep, run-keep}
@@ -52,7 +52,7 @@ module _ (s : List Float) where
 
   -- two pushes after all the points
   module _ (h : 2 ≤ count s) {b b₁ : Run} {first : Vertex} (e : b ≡ runOf all)
-      (e₁ : b₁ ≡ pushed (vertex (b .last .z) 𝟘) b) (f : first ≡ pointOf true s 0) where
+      (e₁ : b₁ ≡ pushed (vertex (b .last .z) 𝟘) b) (f : first ≡ pointAt true s 0) where
     at-down : vertex (b .last .z) 𝟘 ≡ down
     at-down =
         let p : b .last ≡ lastOf all = rw e (points-last true s (count s) (omega arith)) in
@@ -74,10 +74,10 @@ module _ (s : List Float) where
     section-run e₂ = e₂ ∙ rw (at-back, down-run, closed) (run-keep (keep down all) back down-whole)
 
     pub section-space : (limit : ℕ) (space₀ : List Float) {space space₁ space₂ : List Float} → limit * 2 ≤ length space₀
-        → space ≡ upTo limit all space₀ → space₁ ≡ pushedSpace limit (vertex (b .last .z) 𝟘) b space
-        → space₂ ≡ pushedSpace limit (vertex (first .z) 𝟘) b₁ space₁ → space₂ ≡ upTo limit (sectionOf s) space₀
+        → space ≡ frontKept limit all space₀ → space₁ ≡ pushedSpace limit (vertex (b .last .z) 𝟘) b space
+        → space₂ ≡ pushedSpace limit (vertex (first .z) 𝟘) b₁ space₁ → space₂ ≡ frontKept limit (sectionOf s) space₀
     section-space limit space₀ {space} {space₁} k q q₁ q₂ =
-        let r : space₁ ≡ upTo limit (keep down all) space₀ =
+        let r : space₁ ≡ frontKept limit (keep down all) space₀ =
         q₁ ∙ rw (at-down, e, q) (space-keep limit all space₀ down all-whole k) in
         q₂ ∙ rw (at-back, down-run, r, closed) (space-keep limit (keep down all) space₀ back down-whole k)
 
@@ -112,7 +112,7 @@ module _ (s : List Float) where
   part-most false = omega arith
 
   part-space : (limit : ℕ) (space : List Float) (t : Bool) → limit ≤ count (part t)
-      → upTo limit points space ≡ upTo limit (part t) space
+      → frontKept limit points space ≡ frontKept limit (part t) space
   part-space limit space true h =
       let e = whole in
       let k : limit ≤ count points - 1 = rw (part-count true) at h in
@@ -129,10 +129,10 @@ module _ (s : List Float) where
       rw opened (omega arith)
 
   pub polygon-space : (limit : ℕ) (space : List Float) → limit ≤ count (polygonOf s)
-      → upTo limit points space ≡ upTo limit (polygonOf s) space
+      → frontKept limit points space ≡ frontKept limit (polygonOf s) space
   polygon-space limit space h = rw opened (part-space limit space closes (rw opened at h))
 
-  pub polygon-count : {b : Run} {first : Vertex} → 1 ≤ count s → b ≡ runOf points → first ≡ pointOf false s 0
+  pub polygon-count : {b : Run} {first : Vertex} → 1 ≤ count s → b ≡ runOf points → first ≡ pointAt false s 0
       → count (polygonOf s) ≡ cond (ltb 1 (b .count) && samePoint first (b .last)) (b .count - 1) (b .count)
   polygon-count h e f =
       rw (opened, f, e, points-last false s (count s) h, ← points-first false s (count s) h) (part-count closes)

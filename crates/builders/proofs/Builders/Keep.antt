@@ -13,7 +13,7 @@ use borrow.Author.Tests.{lt-ltb}
 use Rattle.arith.specs.F64.{𝟘}
 use Rattle.profile.specs.Vertices.{vertex, count, vertexAt}
 use Rattle.builders.specs.Builder.{samePoint, lastOf, keep}
-use Rattle.builders.specs.Steps.{run, runOf, repeats, pushed}
+use Rattle.builders.specs.Steps.{run, runOf, isRepeat, pushed}
 use Rattle.profile.specs.declared.shapes.Vertex.{Vertex}
 
 -- vertices are whole
@@ -47,7 +47,7 @@ same-test : (t : Bool) (a b v : Vertex) → (t && samePoint (cond t a b) v) ≡ 
 same-test true a b v = refl
 same-test false a b v = refl
 
-pub repeats-same : (l : List Float) (v : Vertex) → repeats (runOf l) v ≡ (ltb 0 (count l) && samePoint (lastOf l) v)
+pub repeats-same : (l : List Float) (v : Vertex) → isRepeat (runOf l) v ≡ (ltb 0 (count l) && samePoint (lastOf l) v)
 repeats-same l v = same-test (ltb 0 (count l)) (lastOf l) (vertex 𝟘 𝟘) v
 
 -- one point more

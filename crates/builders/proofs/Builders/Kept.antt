@@ -12,7 +12,7 @@ use Rattle.profile.specs.Vertices.{count}
 use Rattle.profile.specs.Refusals.{_when_, refusal, fewer}
 use Rattle.profile.specs.Replies.{value, turned-down, reply}
 use Rattle.builders.specs.Builder.{filled}
-use Rattle.builders.specs.Steps.{threeKept, numbersOf, upTo}
+use Rattle.builders.specs.Steps.{threeKept, numbersOf, frontKept}
 use Rattle.builders.specs.Kept.{told, handedBack}
 use Rattle.builders.specs.declared.shapes.Kept.{Kept}
 use Rattle.builders.specs.declared.shapes.Kept.the-variants.{Numbers, Refused}
@@ -46,7 +46,7 @@ module _ (l : List Float) where
 
 -- all of l is written where the limit is that of the answer
 pub written-all : (n m : ℕ) (l space : List Float) → Whole l → value m ≡ reply n (length l)
-    → upTo (m / 2) l space ≡ filled (handedBack n l) space
+    → frontKept (m / 2) l space ≡ filled (handedBack n l) space
 written-all n m l space e a =
     let k = accepted l n m a in
     let h : length l ≤ m / 2 * 2 = omega arith in

@@ -10,7 +10,7 @@ use lib.Ieee.{Float}
 use borrow.Author.Tests.{lt-ltb}
 use Rattle.profile.specs.Vertices.{count, vertexAt, upto}
 use Rattle.builders.specs.Builder.{lastOf, keep}
-use Rattle.builders.specs.Steps.{pointOf, keptPoints, runOf, pushed, pushedSpace, upTo}
+use Rattle.builders.specs.Steps.{pointAt, keptPoints, runOf, pushed, pushedSpace, frontKept}
 use Rattle.builders.specs.declared.builder.Run.{Run}
 use Rattle.profile.specs.declared.shapes.Vertex.{Vertex}
 use Rattle.builders.proofs.Builders.Keep.{Whole, Next, next-keep, run-keep}
@@ -20,11 +20,11 @@ module _ (raise : Bool) (s : List Float) where
   pub points-whole : (k : ℕ) → Whole (keptPoints raise s k)
   unfolding keptPoints upto
   points-whole zero = refl
-  points-whole (suc k) = next-keep _ (pointOf raise s k) (points-whole k) .whole
+  points-whole (suc k) = next-keep _ (pointAt raise s k) (points-whole k) .whole
 
   step : (k : ℕ) → Next (keptPoints raise s k) (keptPoints raise s (suc k))
   unfolding keptPoints upto
-  step k = next-keep _ (pointOf raise s k) (points-whole k)
+  step k = next-keep _ (pointAt raise s k) (points-whole k)
 
   pub points-most : (k : ℕ) → count (keptPoints raise s k) ≤ k
   unfolding keptPoints upto
@@ -37,7 +37,7 @@ module _ (raise : Bool) (s : List Float) where
   points-some (suc zero) h = omega arith
   points-some (suc (suc k)) h = let i = points-some (suc k) (omega arith) in let n = step (suc k) in omega arith
 
-  pub points-first : (k : ℕ) → 1 ≤ k → vertexAt (keptPoints raise s k) 0 ≡ pointOf raise s 0
+  pub points-first : (k : ℕ) → 1 ≤ k → vertexAt (keptPoints raise s k) 0 ≡ pointAt raise s 0
   unfolding keptPoints upto keep
   points-first zero h = absurd (omega arith)
   points-first (suc zero) h = refl
@@ -47,7 +47,7 @@ module _ (raise : Bool) (s : List Float) where
   pub points-last : (k : ℕ) → 1 ≤ k → runOf (keptPoints raise s k) .last ≡ lastOf (keptPoints raise s k)
   points-last k h = rw (lt-ltb 0 (count (keptPoints raise s k)) (points-some k h))
 
-pub up-to-length : (limit : ℕ) (l space : List Float) → limit * 2 ≤ length space → length (upTo limit l space) ≡ length space
+pub up-to-length : (limit : ℕ) (l space : List Float) → limit * 2 ≤ length space → length (frontKept limit l space) ≡ length space
 up-to-length limit l space h = filled-length (take (limit * 2) l) space (simp length-take (omega arith))
 
 -- the loop after k points: the run is that of what is kept of them
@@ -55,18 +55,18 @@ module _ (raise : Bool) (s : List Float) (k : ℕ) {b : Run} (e : b ≡ runOf (k
   pub count-most : b .count ≤ k
   count-most = rw e (points-most raise s k)
 
-  pub run-turned : {v : Vertex} {b′ : Run} → v ≡ pointOf raise s k → b′ ≡ pushed v b → b′ ≡ runOf (keptPoints raise s (k + 1))
+  pub run-turned : {v : Vertex} {b′ : Run} → v ≡ pointAt raise s k → b′ ≡ pushed v b → b′ ≡ runOf (keptPoints raise s (k + 1))
   unfolding keptPoints upto
-  run-turned w p = rw (add-one k) (p ∙ rw (w, e) (run-keep _ (pointOf raise s k) (points-whole raise s k)))
+  run-turned w p = rw (add-one k) (p ∙ rw (w, e) (run-keep _ (pointAt raise s k) (points-whole raise s k)))
 
   -- and the space holds it, up to the limit
   module _ (limit : ℕ) (space₀ : List Float) {space : List Float} (h : limit * 2 ≤ length space₀)
-      (q : space ≡ upTo limit (keptPoints raise s k) space₀) where
+      (q : space ≡ frontKept limit (keptPoints raise s k) space₀) where
     pub same-long : length space ≡ length space₀
     same-long = ap length q ∙ up-to-length limit (keptPoints raise s k) space₀ h
 
-    pub space-turned : {v : Vertex} {space′ : List Float} → v ≡ pointOf raise s k → space′ ≡ pushedSpace limit v b space
-        → space′ ≡ upTo limit (keptPoints raise s (k + 1)) space₀
+    pub space-turned : {v : Vertex} {space′ : List Float} → v ≡ pointAt raise s k → space′ ≡ pushedSpace limit v b space
+        → space′ ≡ frontKept limit (keptPoints raise s (k + 1)) space₀
     unfolding keptPoints upto
     space-turned w p =
-        rw (add-one k) (p ∙ rw (w, e, q) (space-keep limit _ space₀ (pointOf raise s k) (points-whole raise s k) h))
+        rw (add-one k) (p ∙ rw (w, e, q) (space-keep limit _ space₀ (pointAt raise s k) (points-whole raise s k) h))

@@ -12,7 +12,7 @@ use lib.Ieee.{Float}
 use borrow.Author.Tests.{ltb-true, ltb-false}
 use Rattle.profile.specs.Vertices.{count}
 use Rattle.builders.specs.Builder.{samePoint, lastOf, keep, filled}
-use Rattle.builders.specs.Steps.{runOf, written, pushedSpace, upTo}
+use Rattle.builders.specs.Steps.{runOf, written, pushedSpace, frontKept}
 use Rattle.profile.specs.declared.shapes.Vertex.{Vertex}
 use Rattle.builders.proofs.Builders.Keep.{Whole, more, repeats-same}
 
@@ -30,7 +30,7 @@ front-more l space z r h =
     (rw (take-append-seam, drop-append-add, drop-drop) at (sets-eq (z ∷ r ∷ []) (filled l space) (length l) b))
 
 module _ (limit : ℕ) (l space : List Float) (v : Vertex) (e : Whole l) (h : limit * 2 ≤ length space) where
-  put-by : (b : Bool) → ltb (count l) limit ≡ b → written limit (count l) v (upTo limit l space) ≡ upTo limit (more v l) space
+  put-by : (b : Bool) → ltb (count l) limit ≡ b → written limit (count l) v (frontKept limit l space) ≡ frontKept limit (more v l) space
   unfolding written
   put-by true q =
       let k : count l < limit = ltb-true _ _ q in
@@ -41,14 +41,14 @@ module _ (limit : ℕ) (l space : List Float) (v : Vertex) (e : Whole l) (h : li
       let k : limit ≤ count l = ltb-false _ _ q in
       rw (q, take-append-le (limit * 2) l (v .z ∷ v .r ∷ []) (omega arith))
 
-  put-more : written limit (count l) v (upTo limit l space) ≡ upTo limit (more v l) space
+  put-more : written limit (count l) v (frontKept limit l space) ≡ frontKept limit (more v l) space
   put-more = put-by _ refl
 
   keep-by : (b : Bool) → (ltb 0 (count l) && samePoint (lastOf l) v) ≡ b
-      → pushedSpace limit v (runOf l) (upTo limit l space) ≡ upTo limit (keep v l) space
+      → pushedSpace limit v (runOf l) (frontKept limit l space) ≡ frontKept limit (keep v l) space
   unfolding pushedSpace keep
   keep-by true q = rw (repeats-same l v, q)
   keep-by false q = rw (repeats-same l v, q) put-more
 
-  pub space-keep : pushedSpace limit v (runOf l) (upTo limit l space) ≡ upTo limit (keep v l) space
+  pub space-keep : pushedSpace limit v (runOf l) (frontKept limit l space) ≡ frontKept limit (keep v l) space
   space-keep = keep-by _ refl

@@ -10,7 +10,7 @@ use Rattle.profile.specs.Refusals.{refusal}
 use Rattle.profile.specs.Replies.{value, turned-down}
 use Rattle.builders.specs.Kept.{told, sectionTests, polygonTests}
 use Rattle.builders.specs.Kept.{sectionAnswer, polygonAnswer, sectionKept, polygonKept}
-use Rattle.builders.specs.Steps.{upTo, numbersOf}
+use Rattle.builders.specs.Steps.{frontKept, numbersOf}
 use Rattle.builders.specs.declared.shapes.Kept.{Kept}
 use Rattle.builders.proofs.Builders.Closing.{section-whole, polygon-whole}
 use Rattle.builders.proofs.Builders.Kept.{stays, written-all, handed-long}
@@ -25,7 +25,7 @@ module _ (s space : List Float) where
   unfolding sectionAnswer sectionKept
   section-stays {m} a = stays (sectionOf s) (refusal (sectionTests s space)) m space a
 
-  pub section-written : {m : ℕ} → value m ≡ sectionAnswer s space → upTo (m / 2) (sectionOf s) space ≡ filled (sectionKept s space) space
+  pub section-written : {m : ℕ} → value m ≡ sectionAnswer s space → frontKept (m / 2) (sectionOf s) space ≡ filled (sectionKept s space) space
   unfolding sectionAnswer sectionKept
   section-written {m} a = written-all (refusal (sectionTests s space)) m (sectionOf s) space (section-whole s) a
 
@@ -37,7 +37,7 @@ module _ (s space : List Float) where
   unfolding polygonAnswer polygonKept
   polygon-stays {m} a = stays (polygonOf s) (refusal (polygonTests s space)) m space a
 
-  pub polygon-written : {m : ℕ} → value m ≡ polygonAnswer s space → upTo (m / 2) (polygonOf s) space ≡ filled (polygonKept s space) space
+  pub polygon-written : {m : ℕ} → value m ≡ polygonAnswer s space → frontKept (m / 2) (polygonOf s) space ≡ filled (polygonKept s space) space
   unfolding polygonAnswer polygonKept
   polygon-written {m} a = written-all (refusal (polygonTests s space)) m (polygonOf s) space (polygon-whole s) a
 

@@ -7,30 +7,30 @@ use lib.Ieee.{Float}
 use Rattle.arith.specs.F64.{_≺_, 𝟘}
 use Rattle.profile.specs.Refusals.{Test, refusal}
 use Rattle.profile.proofs.Refusals.Ordered.{Passes}
-use Rattle.section.specs.Demand.{UpTo}
+use Rattle.section.specs.Demand.{AtMost}
 use Rattle.section.proofs.Demand.Accepted.{SectionTaken, section-taken}
-use Rattle.section.proofs.Demand.Hits.{VerticesUpTo}
+use Rattle.section.proofs.Demand.Hits.{VerticesAtMost}
 use Rattle.profile.proofs.Each.{All, cons}
-use Rattle.section.proofs.Demand.UpTo.{upTo-given}
+use Rattle.section.proofs.Demand.AtMost.{atMost-given}
 use Rattle.bands.specs.Axis.{axis}
 use Rattle.bands.specs.declared.shapes.Cylinder.{Cylinder}
 use Rattle.bands.proofs.Limit.{CylinderInLimit}
 use Rattle.cylinders.specs.Cylinders.{cylinderNumbers, cylinderOwn, cylinderTests}
 
 pub record Accepted (s : List Float) (c : Cylinder) : Type 0 where
-  pub section : VerticesUpTo 23 s
+  pub section : VerticesAtMost 23 s
   pub cylinder : CylinderInLimit c
 
-in-limit : {c : Cylinder} → All (UpTo 20) (cylinderNumbers c) → T (not (c .radius ≺ 𝟘)) → CylinderInLimit c
+in-limit : {c : Cylinder} → All (AtMost 20) (cylinderNumbers c) → T (not (c .radius ≺ 𝟘)) → CylinderInLimit c
 in-limit (cons ax (cons ay (cons az (cons bx (cons by (cons bz (cons r h))))))) t =
     record {
-      ax = upTo-given ax;
-      ay = upTo-given ay;
-      az = upTo-given az;
-      bx = upTo-given bx;
-      by = upTo-given by;
-      bz = upTo-given bz;
-      radius = upTo-given r;
+      ax = atMost-given ax;
+      ay = atMost-given ay;
+      az = atMost-given az;
+      bx = atMost-given bx;
+      by = atMost-given by;
+      bz = atMost-given bz;
+      radius = atMost-given r;
       solid = t;
     }
 

@@ -9,7 +9,7 @@ use Rattle.bands.specs.Band.{axialBox, bandOf}
 use Rattle.bands.specs.declared.shapes.Cylinder.{Cylinder}
 use Rattle.bands.proofs.AxialBox.{Ordered, axialBox-ordered}
 use Rattle.bands.proofs.Limit.{bandOf-in-limit}
-use Rattle.walk.specs.Pieces.{boxOf}
+use Rattle.walk.specs.Pieces.{pieceBox}
 use Rattle.walk.specs.Walk.{thinBox, walkAll}
 use Rattle.walk.specs.declared.shapes.Piece.{Piece}
 use Rattle.walk.proofs.Demand.Ordered.{walkAll-ordered}
@@ -22,7 +22,7 @@ use Rattle.cylinders.proofs.Cover.Accepted.{accepted}
 pub record BoxesOrdered (s : List Float) (c : Cylinder) : Type 0 where
   pub along : Ordered (axialBox c)
   pub thin : Ordered (thinBox (bandOf c))
-  pub across : All (λ (p : Piece). Ordered (boxOf (bandOf c) p)) (walkAll s (bandOf c) e-9 8192 16 .seen)
+  pub across : All (λ (p : Piece). Ordered (pieceBox (bandOf c) p)) (walkAll s (bandOf c) e-9 8192 16 .seen)
 
 pub boxes-ordered : (s : List Float) (c : Cylinder) (extra : List Float) → refusal (cylinderTests s c extra) ≡ 0
     → BoxesOrdered s c

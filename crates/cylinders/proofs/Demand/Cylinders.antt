@@ -9,11 +9,11 @@ use Rattle.arith.proofs.Laws.Sizes.{finite-raise}
 use Rattle.profile.proofs.Steps.{pick}
 use Rattle.boxes.specs.Boxes.{boxDistance}
 use Rattle.section.specs.Demand.{Bounded}
-use Rattle.section.proofs.Demand.Bounds.{finite-upTo}
-use Rattle.section.proofs.Demand.Boxes.{box-upTo}
-use Rattle.section.proofs.Demand.Hits.{BoxUpTo, HitUpTo, VerticesUpTo, hit-raise}
+use Rattle.section.proofs.Demand.Bounds.{finite-atMost}
+use Rattle.section.proofs.Demand.Boxes.{box-atMost}
+use Rattle.section.proofs.Demand.Hits.{BoxAtMost, HitAtMost, VerticesAtMost, hit-raise}
 use Rattle.section.proofs.Demand.Queries.{hit-bounded}
-use Rattle.section.proofs.Demand.UpTo.{upTo-raise, value-upTo}
+use Rattle.section.proofs.Demand.AtMost.{atMost-raise, value-atMost}
 use Rattle.bands.specs.Axis.{axis}
 use Rattle.bands.specs.Band.{axialBox}
 use Rattle.bands.specs.declared.shapes.Axis.{Axis}
@@ -24,41 +24,41 @@ use Rattle.bands.proofs.AxialBox.{axial-r0, axial-r1, axial-z0, axial-z1}
 use Rattle.bands.proofs.Limit.{CylinderInLimit, InLimit, bandOf-in-limit}
 use Rattle.walk.specs.Walk.{bandDistance}
 use Rattle.walk.specs.declared.shapes.CountedHit.{CountedHit}
-use Rattle.walk.proofs.Demand.Pieces.{thinBox-upTo}
-use Rattle.walk.proofs.Demand.Walks.{walkAll-upTo, walked-upTo}
+use Rattle.walk.proofs.Demand.Pieces.{thinBox-atMost}
+use Rattle.walk.proofs.Demand.Walks.{walkAll-atMost, walked-atMost}
 use Rattle.profile.specs.Refusals.{refusal}
 use Rattle.cylinders.specs.Cylinders.{cylinderDistance, cylinderTests}
 use Rattle.cylinders.proofs.Cover.Accepted.{accepted}
 
-axialBox-upTo : {c : Cylinder} → CylinderInLimit c → BoxUpTo 23 (axialBox c)
-axialBox-upTo C =
+axialBox-atMost : {c : Cylinder} → CylinderInLimit c → BoxAtMost 23 (axialBox c)
+axialBox-atMost C =
     record {
-      z0 = upTo-raise (value-upTo 20 (axial-z0 C .value)) tt;
-      z1 = upTo-raise (value-upTo 20 (axial-z1 C .value)) tt;
-      r0 = finite-upTo (finite-raise (axial-r0 C) tt);
-      r1 = finite-upTo (finite-raise (axial-r1 C) tt);
+      z0 = atMost-raise (value-atMost 20 (axial-z0 C .value)) tt;
+      z1 = atMost-raise (value-atMost 20 (axial-z1 C .value)) tt;
+      r0 = finite-atMost (finite-raise (axial-r0 C) tt);
+      r1 = finite-atMost (finite-raise (axial-r1 C) tt);
     }
 
-module _ {s : List Float} (S : VerticesUpTo 23 s) where
-  band-upTo : {b : RadialBand} → InLimit b → HitUpTo 28 (bandDistance s b .hit)
+module _ {s : List Float} (S : VerticesAtMost 23 s) where
+  band-atMost : {b : RadialBand} → InLimit b → HitAtMost 28 (bandDistance s b .hit)
   unfolding bandDistance
-  band-upTo {b} B =
-      pick (λ (w : CountedHit). HitUpTo 28 (w .hit)) (b .radius ≼ e-15)
-      (λ h. hit-raise (box-upTo S (thinBox-upTo B)) tt)
-      (λ h. walked-upTo (walkAll-upTo S B e-9 8192 (lit< tt) (record { some = lit< tt; few = lit≤ tt })))
+  band-atMost {b} B =
+      pick (λ (w : CountedHit). HitAtMost 28 (w .hit)) (b .radius ≼ e-15)
+      (λ h. hit-raise (box-atMost S (thinBox-atMost B)) tt)
+      (λ h. walked-atMost (walkAll-atMost S B e-9 8192 (lit< tt) (record { some = lit< tt; few = lit≤ tt })))
 
-  cylinder-upTo : {c : Cylinder} → CylinderInLimit c → HitUpTo 28 (cylinderDistance s c .hit)
+  cylinder-atMost : {c : Cylinder} → CylinderInLimit c → HitAtMost 28 (cylinderDistance s c .hit)
   unfolding cylinderDistance
-  cylinder-upTo {c} C = by (axis c) refl
+  cylinder-atMost {c} C = by (axis c) refl
     where
-      along : HitUpTo 28 (boxDistance s (axialBox c))
-      along = hit-raise (box-upTo S (axialBox-upTo C)) tt
+      along : HitAtMost 28 (boxDistance s (axialBox c))
+      along = hit-raise (box-atMost S (axialBox-atMost C)) tt
 
-      by : (a : Axis) → axis c ≡ a → HitUpTo 28 (cylinderDistance s c .hit)
+      by : (a : Axis) → axis c ≡ a → HitAtMost 28 (cylinderDistance s c .hit)
       by Axial e = rw e along
-      by Radial e = rw e (band-upTo (bandOf-in-limit C))
+      by Radial e = rw e (band-atMost (bandOf-in-limit C))
       by Neither e = rw e along
 
 pub cylinder-bounded : (s : List Float) (c : Cylinder) (extra : List Float) → refusal (cylinderTests s c extra) ≡ 0
     → Bounded (cylinderDistance s c .hit)
-cylinder-bounded s c extra e = let A = accepted s c extra e in hit-bounded (cylinder-upTo (A .section) (A .cylinder)) tt
+cylinder-bounded s c extra e = let A = accepted s c extra e in hit-bounded (cylinder-atMost (A .section) (A .cylinder)) tt

@@ -1,4 +1,4 @@
--- `listing::keep_byte` meets its contract: a store past the end changes nothing. Assumes nothing.
+-- `listing::keep_byte` meets its contract: a store past the end changes nothing.
 use borrow.Author.Needs.{needs}
 use mathlib.Core.Path.{sym}
 use lib.Seq.{set-out}

@@ -1,4 +1,4 @@
--- `listing::read_all` is safe and ends: a turn reads 4,096 bytes at most, so that the count fits. Assumes nothing.
+-- `listing::read_all` is safe and ends: a turn reads 4,096 bytes at most, so that the count fits.
 use Prim.Native.Nat.{_+_, _*_, _≤_, _^_}
 use mathlib.Core.Path.{_≡_, refl}
 use lib.ListN.{length as size}

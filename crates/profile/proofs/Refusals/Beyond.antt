@@ -1,4 +1,4 @@
--- What is beyond the limit is what number 4 or number 5 turns down, of one number and of a list. Assumes nothing.
+-- What is beyond the limit is what number 4 or number 5 turns down, of one number and of a list.
 use mathlib.Core.Bool.{Bool, true, false, true≢false, not, _||_, cond}
 use mathlib.Core.List.{List, [], _∷_}
 use mathlib.Core.Path.{_≡_, refl, sym, _∙_}

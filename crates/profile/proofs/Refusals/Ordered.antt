@@ -18,9 +18,9 @@ abbrev pub numbered : List Test → Bool
 numbered [] = true
 numbered (t ∷ ts) = ltb 0 (t .number) && numbered ts
 
-abbrev pub numbersUpTo : ℕ → List Test → Bool
-numbersUpTo n [] = true
-numbersUpTo n (t ∷ ts) = leb (t .number) n && numbersUpTo n ts
+abbrev pub numbersAtMost : ℕ → List Test → Bool
+numbersAtMost n [] = true
+numbersAtMost n (t ∷ ts) = leb (t .number) n && numbersAtMost n ts
 
 abbrev pub ascendsFrom : ℕ → List Test → Bool
 ascendsFrom n [] = true
@@ -98,13 +98,13 @@ pub own-after : (a b : List Test) → T (numbered a) → {r own : ℕ} → r ≡
 own-after a b h e f = rw (e, f, refusal-append a b h)
 
 -- ---- the greatest number
-pub refusal-most : (n : ℕ) (ts : List Test) → T (numbersUpTo n ts) → refusal ts ≤ n
+pub refusal-most : (n : ℕ) (ts : List Test) → T (numbersAtMost n ts) → refusal ts ≤ n
 unfolding refusal
 refusal-most n [] h = omega arith
-refusal-most n (t ∷ ts) h = go (t .applies) (refusal-most n ts (and-r (leb (t .number) n) (numbersUpTo n ts) h))
+refusal-most n (t ∷ ts) h = go (t .applies) (refusal-most n ts (and-r (leb (t .number) n) (numbersAtMost n ts) h))
   where
     go : (x : Bool) → refusal ts ≤ n → cond x (t .number) (refusal ts) ≤ n
-    go true l = leb→le (t .number) n (and-l (leb (t .number) n) (numbersUpTo n ts) h)
+    go true l = leb→le (t .number) n (and-l (leb (t .number) n) (numbersAtMost n ts) h)
     go false l = l
 
 -- ---- 01: the lowest number that applies

@@ -18,7 +18,7 @@ use denote.Memory.{partAt, shares}
 use denote.Ref.{RefT}
 use denote.Slice.{sliceVal, Room, at-slice, codedHoleys, heres}
 use Rattle.profile.specs.declared.shapes.Vertex.{Vertex}
-use Rattle.records.proofs.Filled.{Filled}
+use Rattle.records.proofs.FrontFilled.{FrontFilled}
 use Rattle.records.proofs.Layer.Form.{Form, rowOf, buffer-ty, word, vertex-ty, slice-ty}
 use Rattle.records.proofs.Layer.Array.{Elem, Buffer}
 
@@ -67,7 +67,7 @@ module _ {F : Form} (c : Call F) where
   pub record Head : Type 0 where
     pub i : ℕ
     pub buffer : List Float
-    pub ok : Filled (c .xs) i buffer
+    pub ok : FrontFilled (c .xs) i buffer
 
   abbrev pub Nearer : Head → Head → Type 0
   Nearer t s = n - t .i < n - s .i

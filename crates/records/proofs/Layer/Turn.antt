@@ -43,7 +43,7 @@ use Rattle.profile.specs.declared.shapes.Vertex.{Vertex}
 use Rattle.records.specs.Steps.{stored, next}
 use Rattle.records.proofs.copying.put as put
 use Rattle.records.proofs.copying.put.Symbol.{name as put-name}
-use Rattle.records.proofs.Filled.{filled-next, nearer}
+use Rattle.records.proofs.FrontFilled.{filled-next, nearer}
 use Rattle.records.proofs.Layer.Form.{Form, word, turn}
 use Rattle.records.proofs.Layer.Array.{Elem, Buffer, past, elem-vals, elem-tells, elem-copy, elem-makes, elem-typed}
 use Rattle.records.proofs.Layer.State.{Call, Locals, Head, Nearer, En, At, lent, n}

@@ -38,7 +38,7 @@ use denote.Triple.Walked.{goes-none, goes-none-slice, Walks, walked, walk-meets}
 use Rattle.records.proofs.copying.blank as blank
 use Rattle.records.proofs.copying.blank.Symbol.{name as blank-name}
 use Rattle.records.proofs.copying.put.Symbol.{name as put-name}
-use Rattle.records.proofs.Filled.{filled-start}
+use Rattle.records.proofs.FrontFilled.{filled-start}
 use Rattle.records.proofs.Layer.Form.{Form, rowOf, ended, clauses, turn, loop, function}
 use Rattle.records.proofs.Layer.Array.{Elem, Buffer, buffer-typed, part-in}
 use Rattle.records.proofs.Layer.State.{Call, Locals, Head, Nearer, Nearer-wf, En, At, n, section-val}

@@ -1,4 +1,4 @@
--- The bits of binary64 and the values that they stand for, in units of the smallest value. Assumes nothing.
+-- The bits of binary64 and the values that they stand for, in units of the smallest value.
 use Prim.Native.Nat.{_%_, _*_, _+_, _-_, _/_, _<_, _^_, suc, zero, ℕ, _≤_}
 use mathlib.Core.Bool.{Bool, cond, false, true}
 use mathlib.Core.Logic.{inl, inr}

@@ -1,4 +1,4 @@
--- Signs, infinities and NaNs by their bits and by comparisons. Assumes nothing.
+-- Signs, infinities and NaNs by their bits and by comparisons.
 use Prim.Native.Nat.{_%_, _*_, _<_, _^_, ℕ, _≤_}
 use mathlib.Core.Bool.{_&&_, Bool, Bool·beq, false, not, true, _||_}
 use mathlib.Core.Path.{ap, refl, subst, sym, _∙_, _≡_}

@@ -1,5 +1,5 @@
 -- The sticky root of N: 4 times the root, exact where twice the root is whole, and otherwise odd and between. Comparing it with an even
--- number compares the root itself, so it can be rounded in place of the root. Assumes nothing.
+-- number compares the root itself, so it can be rounded in place of the root.
 use Prim.Native.Nat.{_*_, _+_, _<_, _^_, zero-le, ℕ, _≤_}
 use mathlib.Core.Bool.{Bool, cond, false, true}
 use mathlib.Core.Logic.{inl, inr}

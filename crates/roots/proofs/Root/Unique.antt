@@ -1,4 +1,4 @@
--- What passes two comparisons of squares, and is even at a tie, is the sticky root rounded. Assumes nothing.
+-- What passes two comparisons of squares, and is even at a tie, is the sticky root rounded.
 use Prim.Native.Nat.{_%_, _*_, _+_, _-_, _/_, _<_, ℕ, _≤_}
 use mathlib.Core.Logic.{inl, inr, _⊎_}
 use mathlib.Core.Path.{ap, refl, subst, sym, _∙_, _≡_}

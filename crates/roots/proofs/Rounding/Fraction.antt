@@ -1,5 +1,5 @@
 -- A fraction n / c rounded to p binary digits, as a whole number: the core of every rounding. It is monotone, keeps what has p digits,
--- and errs by at most half a unit in the last place. Nothing here is about floats. Assumes nothing.
+-- and errs by at most half a unit in the last place. Nothing here is about floats.
 use Prim.Native.Nat.{_%_, _*_, _+_, _-_, _/_, _<_, _^_, compare, Ordering, Ordering·eq, Ordering·gt, Ordering·lt, suc}
 use Prim.Native.Nat.{zero, zero-le, ℕ, _≤_}
 use mathlib.Core.Logic.{inl, inr}

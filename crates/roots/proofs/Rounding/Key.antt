@@ -1,5 +1,5 @@
 -- A float of the format f that is no NaN, as one natural number, its key: its place among all multiples of the smallest value, counted
--- from minus infinity. Zeros of both signs have the key mid, minus infinity 0, plus infinity mid + mid. Assumes nothing.
+-- from minus infinity. Zeros of both signs have the key mid, minus infinity 0, plus infinity mid + mid.
 use Prim.Native.Nat.{_%_, _*_, _+_, _-_, _/_, _<_, _^_, suc, zero, zero-le, ℕ, _≤_}
 use mathlib.Core.Bool.{_&&_, Bool, false, not, true}
 use mathlib.Core.Path.{ap, refl, subst, sym, _∙_, _≡_}

@@ -1,4 +1,4 @@
--- Comparing two floats is comparing their keys. Assumes nothing.
+-- Comparing two floats is comparing their keys.
 use Prim.Native.Nat.{_*_, _+_, _-_, _<_, ℕ, _≤_}
 use mathlib.Core.Bool.{_&&_, Bool, Bool·beq, false, not, true, _||_}
 use mathlib.Core.Path.{ap, refl, subst, sym, _∙_, _≡_}

@@ -1,4 +1,4 @@
--- The rounded fraction is the nearest of ALL numbers of p digits, and even at a tie. Assumes nothing.
+-- The rounded fraction is the nearest of ALL numbers of p digits, and even at a tie.
 use Prim.Native.Nat.{_%_, _*_, _+_, _-_, _/_, _<_, _^_, compare, compare·suc-suc, compare·zero-zero, Ordering}
 use Prim.Native.Nat.{Ordering·eq, suc, zero, zero-le, ℕ, _≤_}
 use mathlib.Core.Logic.{inl, inr, _⊎_}

@@ -1,4 +1,4 @@
--- The key of a product is one rounding of the exact product. Assumes nothing.
+-- The key of a product is one rounding of the exact product.
 use Prim.Native.Nat.{_*_, _+_, _-_, ℕ, _≤_}
 use mathlib.Core.Bool.{Bool, false, true}
 use mathlib.Core.Path.{ap, _∙_, _≡_}

@@ -1,4 +1,4 @@
--- The key of a quotient is one rounding of the exact quotient, by a divisor of either sign. Assumes nothing.
+-- The key of a quotient is one rounding of the exact quotient, by a divisor of either sign.
 use Prim.Native.Nat.{_*_, _/_, _<_, suc, zero, ℕ}
 use mathlib.Core.Bool.{Bool, cond, false, true}
 use mathlib.Core.Path.{ap, refl, subst, sym, _∙_, _≡_}

@@ -1,5 +1,5 @@
 -- The key of a rounded signed fraction (a - b) / c: the one rounding that every operation makes. It is monotone, and its error is at
--- most half a unit in the last place. Assumes nothing.
+-- most half a unit in the last place.
 use Prim.Native.Nat.{_*_, _+_, _-_, _<_, _^_, min, suc, zero, ℕ, _≤_}
 use mathlib.Core.Bool.{Bool, cond, false, not, true}
 use mathlib.Core.Logic.{inl, inr}

@@ -1,4 +1,4 @@
--- Sum, negation and difference: each key is one rounding of the exact result. Assumes nothing.
+-- Sum, negation and difference: each key is one rounding of the exact result.
 use Prim.Native.Nat.{_*_, _+_, _-_, _<_, ℕ, _≤_}
 use mathlib.Core.Bool.{_&&_, Bool, Bool·beq, cond, false, not, true}
 use mathlib.Core.Path.{ap, refl, sym, _∙_, _≡_}

@@ -11,26 +11,26 @@ use Rattle.profile.specs.Vertices.{count}
 use Rattle.profile.proofs.Each.{All, all-at, all-first, all-map, all-rest, cons, nil}
 use Rattle.profile.proofs.Refusals.Ordered.{Passes, numbered}
 use Rattle.profile.proofs.Refusals.Passed.{NumberTaken, ShapeTaken, Taken, taken}
-use Rattle.section.specs.Demand.{UpTo}
-use Rattle.section.proofs.Demand.Hits.{VerticesUpTo}
-use Rattle.section.proofs.Demand.UpTo.{limit-upTo, upTo-raise}
+use Rattle.section.specs.Demand.{AtMost}
+use Rattle.section.proofs.Demand.Hits.{VerticesAtMost}
+use Rattle.section.proofs.Demand.AtMost.{limit-atMost, atMost-raise}
 
-pub taken-upTo : (x : Float) → NumberTaken x → UpTo 20 x
-taken-upTo x X = limit-upTo x (not-not (isFinite x) (X .finite)) (X .small)
+pub taken-atMost : (x : Float) → NumberTaken x → AtMost 20 x
+taken-atMost x X = limit-atMost x (not-not (isFinite x) (X .finite)) (X .small)
   where
     not-not : (b : Bool) → T (not (not b)) → T b
     not-not true h = tt
     not-not false h = h
 
-pub taken-vertices : {s : List Float} → ShapeTaken 3 256 s → All NumberTaken s → VerticesUpTo 23 s
+pub taken-vertices : {s : List Float} → ShapeTaken 3 256 s → All NumberTaken s → VerticesAtMost 23 s
 taken-vertices {s} h A =
     let l = nltb→le (count s) 3 (h .long) in
-    record { some = omega arith; each = λ k w. upTo-raise (taken-upTo _ (all-at A nan k w)) tt }
+    record { some = omega arith; each = λ k w. atMost-raise (taken-atMost _ (all-at A nan k w)) tt }
 
 -- of one section beside a body with these numbers, whatever else is given
 pub record SectionTaken (s numbers : List Float) (own : List Test) : Type 0 where
-  pub section : VerticesUpTo 23 s
-  pub body : All (UpTo 20) numbers
+  pub section : VerticesAtMost 23 s
+  pub body : All (AtMost 20) numbers
   pub own-passes : All Passes own
 
 pub section-taken : (s numbers extra : List Float) (own : List Test) → T (numbered own)
@@ -44,6 +44,6 @@ section-taken s numbers extra own h e = go (t .shapes)
     go (cons k nil) =
         record {
           section = taken-vertices k (all-first s (numbers ++ extra) (t .numbers));
-          body = all-map taken-upTo (all-first numbers extra (all-rest s (numbers ++ extra) (t .numbers)));
+          body = all-map taken-atMost (all-first numbers extra (all-rest s (numbers ++ extra) (t .numbers)));
           own-passes = t .rest-passes;
         }

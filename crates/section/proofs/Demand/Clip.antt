@@ -18,10 +18,10 @@ use Rattle.profile.specs.Vertices.{endAt, hit, vertexAt}
 use Rattle.profile.specs.declared.shapes.Aabb.{Aabb}
 use Rattle.segments.specs.declared.shapes.Clip.{Clip}
 use Rattle.profile.specs.declared.shapes.Vertex.{Vertex}
-use Rattle.section.proofs.Demand.Bounds.{sub-upTo}
-use Rattle.section.proofs.Demand.Hits.{BoxUpTo, corners-upTo, endAt-upTo, HitUpTo, nearest-hit, none-yet}
-use Rattle.section.proofs.Demand.Hits.{vertex-raise, vertexAt-upTo, VertexUpTo}
-use Rattle.section.proofs.Demand.Segments.{along-upTo, minus-difference, segments-upTo}
+use Rattle.section.proofs.Demand.Bounds.{sub-atMost}
+use Rattle.section.proofs.Demand.Hits.{BoxAtMost, corners-atMost, endAt-atMost, HitAtMost, nearest-hit, none-yet}
+use Rattle.section.proofs.Demand.Hits.{vertex-raise, vertexAt-atMost, VertexAtMost}
+use Rattle.section.proofs.Demand.Segments.{along-atMost, minus-difference, segments-atMost}
 
 pub record ClipInUnit (c : Clip) : Type 0 where
   pub t0 : InUnit (c .t0)
@@ -61,14 +61,14 @@ module _ {p q : Float} {c : Clip} (P : Finite 24 p) (Q : Finite 24 q) (C : ClipI
           let under = le-of-lt (below-key (X h) (C .t1 .most) m) in
           record { t0 = C .t0; t1 = between (X h) (C .t0) (C .t1) over under }
 
-clip-inUnit : {x : Aabb} {a b : Vertex} → BoxUpTo 23 x → VertexUpTo 23 a → VertexUpTo 23 b → ClipInUnit (clip x a b)
+clip-inUnit : {x : Aabb} {a b : Vertex} → BoxAtMost 23 x → VertexAtMost 23 a → VertexAtMost 23 b → ClipInUnit (clip x a b)
 unfolding clip
 clip-inUnit X A B =
     let d = minus-difference B A in
-    let c₁ = clipSide-inUnit (neg-finite (d .z)) (sub-upTo (A .z) (X .z0) tt) whole in
-    let c₂ = clipSide-inUnit (d .z) (sub-upTo (X .z1) (A .z) tt) c₁ in
-    let c₃ = clipSide-inUnit (neg-finite (d .r)) (sub-upTo (A .r) (X .r0) tt) c₂ in
-    let c₄ = clipSide-inUnit (d .r) (sub-upTo (X .r1) (A .r) tt) c₃ in
+    let c₁ = clipSide-inUnit (neg-finite (d .z)) (sub-atMost (A .z) (X .z0) tt) whole in
+    let c₂ = clipSide-inUnit (d .z) (sub-atMost (X .z1) (A .z) tt) c₁ in
+    let c₃ = clipSide-inUnit (neg-finite (d .r)) (sub-atMost (A .r) (X .r0) tt) c₂ in
+    let c₄ = clipSide-inUnit (d .r) (sub-atMost (X .r1) (A .r) tt) c₃ in
     ordered c₄
   where
     whole : ClipInUnit (part 𝟘 𝟙)
@@ -78,12 +78,12 @@ clip-inUnit X A B =
     ordered {c} C = pick ClipInUnit (c .t1 ≺ c .t0) (λ h. outside-inUnit) (λ h. C)
 
 -- ---- an edge and a box
-pub edgeBox-upTo : {x : Aabb} {a b : Vertex} → BoxUpTo 23 x → VertexUpTo 23 a → VertexUpTo 23 b
-    → HitUpTo 27 (edgeBox x a b)
+pub edgeBox-atMost : {x : Aabb} {a b : Vertex} → BoxAtMost 23 x → VertexAtMost 23 a → VertexAtMost 23 b
+    → HitAtMost 27 (edgeBox x a b)
 unfolding edgeBox
-edgeBox-upTo {x} {a} {b} X A B =
-    let s = corners-upTo X in
-    pick (HitUpTo 27) (clip x a b .any)
-    (λ h. record { distance = zero-finite 27; witness = along-upTo A B (clip-inUnit X A B .t0) })
+edgeBox-atMost {x} {a} {b} X A B =
+    let s = corners-atMost X in
+    pick (HitAtMost 27) (clip x a b .any)
+    (λ h. record { distance = zero-finite 27; witness = along-atMost A B (clip-inUnit X A B .t0) })
     (λ h. nearest-hit (λ k. segments a b (vertexAt (corners x) k) (endAt (corners x) k)) (hit ∞ a) 4 (leb→le 1 4 tt)
-    (λ k l. segments-upTo A B (vertexAt-upTo s k l) (endAt-upTo s k l)) (none-yet refl (vertex-raise A tt)))
+    (λ k l. segments-atMost A B (vertexAt-atMost s k l) (endAt-atMost s k l)) (none-yet refl (vertex-raise A tt)))

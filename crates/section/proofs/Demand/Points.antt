@@ -12,32 +12,32 @@ use Rattle.arith.specs.declared.vector.Vec3.{Vec3}
 use Rattle.arith.proofs.Laws.Extended.{infinity-less}
 use Rattle.arith.proofs.Laws.Sizes.{Finite, neg-finite, zero-finite, finite-ends}
 use Rattle.profile.proofs.Steps.{any-found, any-not, pick, upto-keeps, upto-reaches}
-use Rattle.section.specs.Demand.{UpTo, offAxis}
-use Rattle.points.specs.Points.{inSection, meridian, pointDistance, sphereDistance, surface, surfaceNear}
+use Rattle.section.specs.Demand.{AtMost, offAxis}
+use Rattle.points.specs.Points.{inSection, meridian, pointDistance, sphereDistance, edgeIsSurface, surfaceNear}
 use Rattle.points.specs.Points.{surfaceStep}
 use Rattle.segments.specs.Segments.{closest}
 use Rattle.profile.specs.Vertices.{count, endAt, hit, nearer, next, vertexAt}
 use Rattle.profile.specs.declared.shapes.CollisionHit.{CollisionHit}
 use Rattle.profile.specs.declared.shapes.Sphere.{Sphere}
 use Rattle.profile.specs.declared.shapes.Vertex.{Vertex}
-use Rattle.section.proofs.Demand.Bounds.{finite-upTo, hypot-upTo, sub-upTo}
-use Rattle.section.proofs.Demand.Hits.{BestUpTo, endAt-upTo, found, HitUpTo, nearer-new, next-below, none-yet}
-use Rattle.section.proofs.Demand.Hits.{vertex-raise, vertexAt-upTo, VertexUpTo, VerticesUpTo}
-use Rattle.section.proofs.Demand.Segments.{closest-upTo}
-use Rattle.section.proofs.Demand.UpTo.{upTo-raise}
+use Rattle.section.proofs.Demand.Bounds.{finite-atMost, hypot-atMost, sub-atMost}
+use Rattle.section.proofs.Demand.Hits.{BestAtMost, endAt-atMost, found, HitAtMost, nearer-new, next-below, none-yet}
+use Rattle.section.proofs.Demand.Hits.{vertex-raise, vertexAt-atMost, VertexAtMost, VerticesAtMost}
+use Rattle.section.proofs.Demand.Segments.{closest-atMost}
+use Rattle.section.proofs.Demand.AtMost.{atMost-raise}
 
-first-vertex : {s : List Float} → VerticesUpTo 23 s → VertexUpTo 25 (vertexAt s 0)
-first-vertex S = vertex-raise (vertexAt-upTo S 0 (S .some)) tt
+first-vertex : {s : List Float} → VerticesAtMost 23 s → VertexAtMost 25 (vertexAt s 0)
+first-vertex S = vertex-raise (vertexAt-atMost S 0 (S .some)) tt
 
 -- a bounded hit where some vertex is off the axis, and otherwise +infinity with the first vertex
-pub record OffAxisUpTo (n : ℕ) (s : List Float) (h : CollisionHit) : Type 0 where
-  pub off : T (offAxis s) → HitUpTo n h
+pub record OffAxisAtMost (n : ℕ) (s : List Float) (h : CollisionHit) : Type 0 where
+  pub off : T (offAxis s) → HitAtMost n h
   pub on : T (not (offAxis s)) → h ≡ hit ∞ (vertexAt s 0)
 
-pub offAxis-best : {n : ℕ} {s : List Float} {h : CollisionHit} → VerticesUpTo 23 s → OffAxisUpTo n s h → BestUpTo n h
+pub offAxis-best : {n : ℕ} {s : List Float} {h : CollisionHit} → VerticesAtMost 23 s → OffAxisAtMost n s h → BestAtMost n h
 offAxis-best {n} {s} {h} S H = go (offAxis s) (H .off) (H .on)
   where
-    go : (b : Bool) → (T b → HitUpTo n h) → (T (not b) → h ≡ hit ∞ (vertexAt s 0)) → BestUpTo n h
+    go : (b : Bool) → (T b → HitAtMost n h) → (T (not b) → h ≡ hit ∞ (vertexAt s 0)) → BestAtMost n h
     go true f g = found (f tt)
     go false f g = rw (g tt) (none-yet refl (first-vertex S))
 
@@ -45,14 +45,14 @@ offAxis-best {n} {s} {h} S H = go (offAxis s) (H .off) (H .on)
 abbrev offAt : List Float → ℕ → Bool
 offAt s k = e-9 ≺ abs (vertexAt s k .r)
 
-off-counts : (s : List Float) (k : ℕ) → T (offAt s k) → T (not (surface (vertexAt s k) (endAt s k))) → ⊥
+off-counts : (s : List Float) (k : ℕ) → T (offAt s k) → T (not (edgeIsSurface (vertexAt s k) (endAt s k))) → ⊥
 off-counts s k = go (offAt s k) (offAt s (next (count s) k))
   where
     go : (a b : Bool) → T a → T (not (a || b)) → ⊥
     go true b h g = g
     go false b h g = h
 
-counts-off : (s : List Float) (k : ℕ) → k < count s → T (not (offAxis s)) → T (surface (vertexAt s k) (endAt s k)) → ⊥
+counts-off : (s : List Float) (k : ℕ) → k < count s → T (not (offAxis s)) → T (edgeIsSurface (vertexAt s k) (endAt s k)) → ⊥
 unfolding offAxis
 counts-off s k l h =
     let m = next (count s) k in
@@ -64,39 +64,39 @@ counts-off s k l h =
     go false b f g = g
 
 -- ---- the closest point on the edges that count
-module _ {s : List Float} (S : VerticesUpTo 23 s) {p : Vertex} (P : VertexUpTo 23 p) where
-  closer : (k : ℕ) → k < count s → {b : CollisionHit} → BestUpTo 27 b
-      → HitUpTo 27 (nearer b (closest p (vertexAt s k) (endAt s k)))
-  closer k l B = nearer-new B (closest-upTo P (vertexAt-upTo S k l) (endAt-upTo S k l))
+module _ {s : List Float} (S : VerticesAtMost 23 s) {p : Vertex} (P : VertexAtMost 23 p) where
+  closer : (k : ℕ) → k < count s → {b : CollisionHit} → BestAtMost 27 b
+      → HitAtMost 27 (nearer b (closest p (vertexAt s k) (endAt s k)))
+  closer k l B = nearer-new B (closest-atMost P (vertexAt-atMost S k l) (endAt-atMost S k l))
 
-  surfaceNear-off : T (offAxis s) → HitUpTo 27 (surfaceNear s p)
+  surfaceNear-off : T (offAxis s) → HitAtMost 27 (surfaceNear s p)
   unfolding surfaceNear surfaceStep offAxis
   surfaceNear-off h =
       let z = any-found (offAt s) (count s) h in
-      upto-reaches (BestUpTo 27) (HitUpTo 27) (surfaceStep s p) (hit ∞ (vertexAt s 0)) (count s)
+      upto-reaches (BestAtMost 27) (HitAtMost 27) (surfaceStep s p) (hit ∞ (vertexAt s 0)) (count s)
       (none-yet refl (first-vertex S))
-      (λ k l b B. pick (BestUpTo 27) (counts k) (λ g. found (closer k l B)) (λ g. B))
-      (λ k l b B. pick (HitUpTo 27) (counts k) (λ g. closer k l (found B)) (λ g. B))
+      (λ k l b B. pick (BestAtMost 27) (counts k) (λ g. found (closer k l B)) (λ g. B))
+      (λ k l b B. pick (HitAtMost 27) (counts k) (λ g. closer k l (found B)) (λ g. B))
       (z .0) (z .1)
-      (λ b B. pick (HitUpTo 27) (counts (z .0)) (λ g. closer (z .0) (z .1) B)
+      (λ b B. pick (HitAtMost 27) (counts (z .0)) (λ g. closer (z .0) (z .1) B)
       (λ g. absurd (off-counts s (z .0) (z .2) g)))
     where
       counts : ℕ → Bool
-      counts k = surface (vertexAt s k) (endAt s k)
+      counts k = edgeIsSurface (vertexAt s k) (endAt s k)
 
   surfaceNear-on : T (not (offAxis s)) → surfaceNear s p ≡ hit ∞ (vertexAt s 0)
   unfolding surfaceNear surfaceStep
   surfaceNear-on h =
       upto-keeps None (surfaceStep s p) (hit ∞ (vertexAt s 0)) (count s) refl
-      (λ k l b B. pick None (surface (vertexAt s k) (endAt s k)) (λ g. absurd (counts-off s k l h g)) (λ g. B))
+      (λ k l b B. pick None (edgeIsSurface (vertexAt s k) (endAt s k)) (λ g. absurd (counts-off s k l h g)) (λ g. B))
     where
       None : CollisionHit → Type 0
       None b = b ≡ hit ∞ (vertexAt s 0)
 
   -- ---- point distance
-  pub point-upTo : OffAxisUpTo 27 s (pointDistance s p)
+  pub point-atMost : OffAxisAtMost 27 s (pointDistance s p)
   unfolding pointDistance isFinite
-  point-upTo =
+  point-atMost =
       record {
         off = λ h. let N = surfaceNear-off h in record { distance = signed (N .distance); witness = N .witness };
         on = λ h. rw (surfaceNear-on h);
@@ -110,24 +110,24 @@ module _ {s : List Float} (S : VerticesUpTo 23 s) {p : Vertex} (P : VertexUpTo 2
           (λ k. pick (Finite 27) (inSection s p) (λ l. neg-finite D) (λ l. D)))
           (λ h. absurd (T-not (isFinite d) h (finite-ends D)))
 
-  pub point-best : BestUpTo 27 (pointDistance s p)
-  point-best = offAxis-best S point-upTo
+  pub point-best : BestAtMost 27 (pointDistance s p)
+  point-best = offAxis-best S point-atMost
 
 -- ---- points of space and spheres: coordinates and radius up to 2 ^ 20
-pub record Vec3UpTo (n : ℕ) (p : Vec3) : Type 0 where
-  pub x : UpTo n (p .x)
-  pub y : UpTo n (p .y)
-  pub z : UpTo n (p .z)
+pub record Vec3AtMost (n : ℕ) (p : Vec3) : Type 0 where
+  pub x : AtMost n (p .x)
+  pub y : AtMost n (p .y)
+  pub z : AtMost n (p .z)
 
-pub meridian-upTo : {p : Vec3} → Vec3UpTo 20 p → VertexUpTo 23 (meridian p)
-meridian-upTo P = record { z = upTo-raise (P .z) tt; r = upTo-raise (finite-upTo (hypot-upTo (P .x) (P .y) tt)) tt }
+pub meridian-atMost : {p : Vec3} → Vec3AtMost 20 p → VertexAtMost 23 (meridian p)
+meridian-atMost P = record { z = atMost-raise (P .z) tt; r = atMost-raise (finite-atMost (hypot-atMost (P .x) (P .y) tt)) tt }
 
-pub sphere-upTo : {s : List Float} → VerticesUpTo 23 s → {b : Sphere} → Vec3UpTo 20 (b .center) → UpTo 20 (b .radius)
-    → OffAxisUpTo 28 s (sphereDistance s b)
+pub sphere-atMost : {s : List Float} → VerticesAtMost 23 s → {b : Sphere} → Vec3AtMost 20 (b .center) → AtMost 20 (b .radius)
+    → OffAxisAtMost 28 s (sphereDistance s b)
 unfolding sphereDistance
-sphere-upTo {s} S {b} C R =
-    let N = point-upTo S (meridian-upTo C) in
+sphere-atMost {s} S {b} C R =
+    let N = point-atMost S (meridian-atMost C) in
     record {
-      off = λ h. record { distance = sub-upTo (finite-upTo (N .off h .distance)) R tt; witness = N .off h .witness };
+      off = λ h. record { distance = sub-atMost (finite-atMost (N .off h .distance)) R tt; witness = N .off h .witness };
       on = λ h. rw (N .on h, infinity-less (b .radius) (R .ends) binary64);
     }

@@ -7,7 +7,7 @@ use Rattle.arith.specs.declared.vector.Vec3.{Vec3}
 use Rattle.section.specs.Answers.{boxAnswer, convexAnswer, pointAnswer, sphereAnswer}
 use Rattle.boxes.specs.Boxes.{boxDistance}
 use Rattle.convex.specs.Convex.{convexDistance}
-use Rattle.section.specs.Demand.{Bounded, BoundedOffAxis, UpTo}
+use Rattle.section.specs.Demand.{Bounded, BoundedOffAxis, AtMost}
 use Rattle.points.specs.Points.{meridian, pointDistance, sphereDistance}
 use Rattle.profile.specs.Refusals.{boxNumbers, boxTests, boundsTests, convexTests, pointNumbers, pointTests, radiusTests}
 use Rattle.profile.specs.Refusals.{refusal, sphereNumbers, sphereTests}
@@ -18,40 +18,40 @@ use Rattle.profile.specs.declared.shapes.Aabb.{Aabb}
 use Rattle.profile.specs.declared.shapes.CollisionHit.{CollisionHit}
 use Rattle.profile.specs.declared.shapes.Sphere.{Sphere}
 use Rattle.section.proofs.Demand.Accepted.{section-taken, taken-vertices}
-use Rattle.section.proofs.Demand.Bounds.{finite-upTo}
-use Rattle.section.proofs.Demand.Boxes.{box-upTo}
-use Rattle.section.proofs.Demand.Convex.{convex-upTo}
-use Rattle.section.proofs.Demand.Hits.{best-number, best-witness, BoxUpTo, HitUpTo, VerticesUpTo}
+use Rattle.section.proofs.Demand.Bounds.{finite-atMost}
+use Rattle.section.proofs.Demand.Boxes.{box-atMost}
+use Rattle.section.proofs.Demand.Convex.{convex-atMost}
+use Rattle.section.proofs.Demand.Hits.{best-number, best-witness, BoxAtMost, HitAtMost, VerticesAtMost}
 use Rattle.profile.proofs.Each.{All, all-first, all-rest, cons, nil}
-use Rattle.section.proofs.Demand.Points.{meridian-upTo, offAxis-best, OffAxisUpTo, point-upTo, sphere-upTo}
-use Rattle.section.proofs.Demand.Points.{Vec3UpTo}
-use Rattle.section.proofs.Demand.UpTo.{upTo-raise}
+use Rattle.section.proofs.Demand.Points.{meridian-atMost, offAxis-best, OffAxisAtMost, point-atMost, sphere-atMost}
+use Rattle.section.proofs.Demand.Points.{Vec3AtMost}
+use Rattle.section.proofs.Demand.AtMost.{atMost-raise}
 
-pub hit-bounded : {n : ℕ} {h : CollisionHit} → HitUpTo n h → T (leb n 28) → Bounded h
+pub hit-bounded : {n : ℕ} {h : CollisionHit} → HitAtMost n h → T (leb n 28) → Bounded h
 hit-bounded H t =
-    record { distance = upTo-raise (finite-upTo (H .distance)) t; z = H .witness .z; r = H .witness .r }
+    record { distance = atMost-raise (finite-atMost (H .distance)) t; z = H .witness .z; r = H .witness .r }
 
-pub hit-boundedOffAxis : {n : ℕ} {s : List Float} {h : CollisionHit} → VerticesUpTo 23 s → OffAxisUpTo n s h
+pub hit-boundedOffAxis : {n : ℕ} {s : List Float} {h : CollisionHit} → VerticesAtMost 23 s → OffAxisAtMost n s h
     → T (leb n 28) → BoundedOffAxis s h
 hit-boundedOffAxis S H t =
     let B = offAxis-best S H in
     record {
       number = best-number B;
-      finite = λ g. upTo-raise (finite-upTo (H .off g .distance)) t;
+      finite = λ g. atMost-raise (finite-atMost (H .off g .distance)) t;
       infinite = H .on;
       z = best-witness B .z;
       r = best-witness B .r;
     }
 
-vec3-upTo : {p : Vec3} {rest : List Float} → All (UpTo 20) (p .x ∷ p .y ∷ p .z ∷ rest) → Vec3UpTo 20 p
-vec3-upTo (cons x (cons y (cons z h))) = record { x = x; y = y; z = z }
+vec3-atMost : {p : Vec3} {rest : List Float} → All (AtMost 20) (p .x ∷ p .y ∷ p .z ∷ rest) → Vec3AtMost 20 p
+vec3-atMost (cons x (cons y (cons z h))) = record { x = x; y = y; z = z }
 
-radius-upTo : {p : Vec3} {radius : Float} → All (UpTo 20) (pointNumbers p ++ (radius ∷ [])) → UpTo 20 radius
-radius-upTo (cons x (cons y (cons z (cons r h)))) = r
+radius-atMost : {p : Vec3} {radius : Float} → All (AtMost 20) (pointNumbers p ++ (radius ∷ [])) → AtMost 20 radius
+radius-atMost (cons x (cons y (cons z (cons r h)))) = r
 
-box-numbers : {x : Aabb} → All (UpTo 20) (x .z0 ∷ x .z1 ∷ x .r0 ∷ x .r1 ∷ []) → BoxUpTo 23 x
+box-numbers : {x : Aabb} → All (AtMost 20) (x .z0 ∷ x .z1 ∷ x .r0 ∷ x .r1 ∷ []) → BoxAtMost 23 x
 box-numbers (cons a (cons b (cons c (cons d h)))) =
-    record { z0 = upTo-raise a tt; z1 = upTo-raise b tt; r0 = upTo-raise c tt; r1 = upTo-raise d tt }
+    record { z0 = atMost-raise a tt; z1 = atMost-raise b tt; r0 = atMost-raise c tt; r1 = atMost-raise d tt }
 
 -- ---- the four queries
 pub point-demand : (s : List Float) (p : Vec3) → OfValue (BoundedOffAxis s) (pointAnswer s p)
@@ -59,21 +59,21 @@ unfolding pointAnswer
 point-demand s p =
     of-reply (BoundedOffAxis s) (refusal (pointTests s p)) (pointDistance s (meridian p))
     (λ e. let A = section-taken s (pointNumbers p) [] [] tt e in
-    hit-boundedOffAxis (A .section) (point-upTo (A .section) (meridian-upTo (vec3-upTo (A .body)))) tt)
+    hit-boundedOffAxis (A .section) (point-atMost (A .section) (meridian-atMost (vec3-atMost (A .body)))) tt)
 
 pub sphere-demand : (s : List Float) (b : Sphere) → OfValue (BoundedOffAxis s) (sphereAnswer s b)
 unfolding sphereAnswer
 sphere-demand s b =
     of-reply (BoundedOffAxis s) (refusal (sphereTests s b [])) (sphereDistance s b)
     (λ e. let A = section-taken s (sphereNumbers b) [] (radiusTests (b .radius)) tt e in
-    hit-boundedOffAxis (A .section) (sphere-upTo (A .section) (vec3-upTo (A .body)) (radius-upTo (A .body))) tt)
+    hit-boundedOffAxis (A .section) (sphere-atMost (A .section) (vec3-atMost (A .body)) (radius-atMost (A .body))) tt)
 
 pub box-demand : (s : List Float) (x : Aabb) → OfValue Bounded (boxAnswer s x)
 unfolding boxAnswer
 box-demand s x =
     of-reply Bounded (refusal (boxTests s x [])) (boxDistance s x)
     (λ e. let A = section-taken s (boxNumbers x) [] (boundsTests x) tt e in
-    hit-bounded (box-upTo (A .section) (box-numbers (A .body))) tt)
+    hit-bounded (box-atMost (A .section) (box-numbers (A .body))) tt)
 
 pub convex-demand : (c s : List Float) → OfValue Bounded (convexAnswer c s)
 unfolding convexAnswer
@@ -83,4 +83,4 @@ convex-demand c s =
     both (t .shapes) (all-first c (s ++ []) (t .numbers)) (all-first s [] (all-rest c (s ++ []) (t .numbers))))
   where
     both : All (ShapeTaken 3 256) (c ∷ s ∷ []) → All NumberTaken c → All NumberTaken s → Bounded (convexDistance c s)
-    both (cons h (cons k nil)) C S = hit-bounded (convex-upTo (taken-vertices h C) (taken-vertices k S)) tt
+    both (cons h (cons k nil)) C S = hit-bounded (convex-atMost (taken-vertices h C) (taken-vertices k S)) tt

@@ -9,15 +9,15 @@ use Rattle.arith.specs.Num.{abs}
 use Rattle.arith.proofs.Laws.Quotients.{abs-over-e-18, div-finite, inside, InUnit, one-inUnit, over-e-24, zero-inUnit}
 use Rattle.arith.proofs.Laws.Sizes.{add-finite, Finite, finite-raise, hypot-finite, mul-finite, neg-finite, sub-finite}
 use Rattle.profile.proofs.Steps.{pick}
-use Rattle.segments.specs.Segments.{along, apart, clamp01, closest, closestPlaces, dot, minus, places, segments}
+use Rattle.segments.specs.Segments.{along, apart, unitClamp, closest, closestPlaces, dot, minus, places, segments}
 use Rattle.segments.specs.declared.shapes.Places.{Places}
 use Rattle.profile.specs.declared.shapes.Vertex.{Vertex}
-use Rattle.section.proofs.Demand.Bounds.{add-upTo, finite-upTo}
-use Rattle.section.proofs.Demand.Bounds.{sub-upTo}
-use Rattle.section.proofs.Demand.Hits.{HitUpTo, vertex-raise, VertexUpTo}
+use Rattle.section.proofs.Demand.Bounds.{add-atMost, finite-atMost}
+use Rattle.section.proofs.Demand.Bounds.{sub-atMost}
+use Rattle.section.proofs.Demand.Hits.{HitAtMost, vertex-raise, VertexAtMost}
 
 -- clamped to the part from 0 to 1
-pub clamped : {n : ℕ} {t : Float} → Finite n t → InUnit (clamp01 t)
+pub clamped : {n : ℕ} {t : Float} → Finite n t → InUnit (unitClamp t)
 clamped {t = t} X =
     pick InUnit (t ≺ 𝟘) (λ h. zero-inUnit) (λ h. pick InUnit (𝟙 ≺ t) (λ k. one-inUnit) (λ k. inside X h k))
 
@@ -26,27 +26,27 @@ pub record Difference (v : Vertex) : Type 0 where
   pub z : Finite 24 (v .z)
   pub r : Finite 24 (v .r)
 
-pub minus-difference : {a b : Vertex} → VertexUpTo 23 a → VertexUpTo 23 b → Difference (minus a b)
-minus-difference A C = record { z = sub-upTo (A .z) (C .z) tt; r = sub-upTo (A .r) (C .r) tt }
+pub minus-difference : {a b : Vertex} → VertexAtMost 23 a → VertexAtMost 23 b → Difference (minus a b)
+minus-difference A C = record { z = sub-atMost (A .z) (C .z) tt; r = sub-atMost (A .r) (C .r) tt }
 
 dot-finite : {a b : Vertex} → Difference a → Difference b → Finite 49 (dot a b)
 dot-finite A C = add-finite (mul-finite (A .z) (C .z) tt) (mul-finite (A .r) (C .r) tt) tt
 
-pub along-upTo : {a b : Vertex} {t : Float} → VertexUpTo 23 a → VertexUpTo 23 b → InUnit t → VertexUpTo 25 (along a b t)
-along-upTo A C t =
+pub along-atMost : {a b : Vertex} {t : Float} → VertexAtMost 23 a → VertexAtMost 23 b → InUnit t → VertexAtMost 25 (along a b t)
+along-atMost A C t =
     let d = minus-difference C A in
     record {
-      z = finite-upTo (add-upTo (A .z) (finite-upTo (mul-finite (d .z) (t .most) tt)) tt);
-      r = finite-upTo (add-upTo (A .r) (finite-upTo (mul-finite (d .r) (t .most) tt)) tt);
+      z = finite-atMost (add-atMost (A .z) (finite-atMost (mul-finite (d .z) (t .most) tt)) tt);
+      r = finite-atMost (add-atMost (A .r) (finite-atMost (mul-finite (d .r) (t .most) tt)) tt);
     }
 
-apart-finite : {a b : Vertex} → VertexUpTo 25 a → VertexUpTo 25 b → Finite 27 (apart a b)
-apart-finite A C = hypot-finite (sub-upTo (A .z) (C .z) tt) (sub-upTo (A .r) (C .r) tt) tt
+apart-finite : {a b : Vertex} → VertexAtMost 25 a → VertexAtMost 25 b → Finite 27 (apart a b)
+apart-finite A C = hypot-finite (sub-atMost (A .z) (C .z) tt) (sub-atMost (A .r) (C .r) tt) tt
 
 -- ---- a point and a segment
-pub closest-upTo : {p a b : Vertex} → VertexUpTo 23 p → VertexUpTo 23 a → VertexUpTo 23 b → HitUpTo 27 (closest p a b)
+pub closest-atMost : {p a b : Vertex} → VertexAtMost 23 p → VertexAtMost 23 a → VertexAtMost 23 b → HitAtMost 27 (closest p a b)
 unfolding closest
-closest-upTo {p} {a} {b} P A C = record { distance = apart-finite (vertex-raise P tt) at; witness = at }
+closest-atMost {p} {a} {b} P A C = record { distance = apart-finite (vertex-raise P tt) at; witness = at }
   where
     d : Vertex
     d = minus b a
@@ -57,10 +57,10 @@ closest-upTo {p} {a} {b} P A C = record { distance = apart-finite (vertex-raise 
     len2 : Finite 49 (dot d d)
     len2 = dot-finite D D
 
-    at : VertexUpTo 25 (cond (dot d d ≼ e-24) a (along a b (clamp01 (dot (minus p a) d ⊘ dot d d))))
+    at : VertexAtMost 25 (cond (dot d d ≼ e-24) a (along a b (unitClamp (dot (minus p a) d ⊘ dot d d))))
     at =
-        pick (VertexUpTo 25) (dot d d ≼ e-24) (λ h. vertex-raise A tt)
-        (λ h. along-upTo A C (clamped (div-finite (dot-finite (minus-difference P A) D) len2 (over-e-24 len2 h) tt tt)))
+        pick (VertexAtMost 25) (dot d d ≼ e-24) (λ h. vertex-raise A tt)
+        (λ h. along-atMost A C (clamped (div-finite (dot-finite (minus-difference P A) D) len2 (over-e-24 len2 h) tt tt)))
 
 -- ---- two segments
 pub record PlacesInUnit (p : Places) : Type 0 where
@@ -84,7 +84,7 @@ module _ {a b c e f : Float}
       den = a ⊗ e ⊖ b ⊗ b
 
       s : Float
-      s = cond (e-18 ≺ abs den) (clamp01 ((b ⊗ f ⊖ c ⊗ e) ⊘ den)) 𝟘
+      s = cond (e-18 ≺ abs den) (unitClamp ((b ⊗ f ⊖ c ⊗ e) ⊘ den)) 𝟘
 
       t : Float
       t = (b ⊗ s ⊕ f) ⊘ e
@@ -106,13 +106,13 @@ module _ {a b c e f : Float}
       by-e : T (not (e ≼ e-24)) → {x : Float} → Finite 50 x → Finite 130 (x ⊘ e)
       by-e h X = div-finite X E (over-e-24 E h) tt tt
 
-      first-end : T (not (a ≼ e-24)) → PlacesInUnit (places (clamp01 (neg c ⊘ a)) 𝟘)
+      first-end : T (not (a ≼ e-24)) → PlacesInUnit (places (unitClamp (neg c ⊘ a)) 𝟘)
       first-end g = record { s = clamped (by-a g (finite-raise (neg-finite C) tt)); t = zero-inUnit }
 
-pub segments-upTo : {p p′ q q′ : Vertex} → VertexUpTo 23 p → VertexUpTo 23 p′ → VertexUpTo 23 q → VertexUpTo 23 q′
-    → HitUpTo 27 (segments p p′ q q′)
+pub segments-atMost : {p p′ q q′ : Vertex} → VertexAtMost 23 p → VertexAtMost 23 p′ → VertexAtMost 23 q → VertexAtMost 23 q′
+    → HitAtMost 27 (segments p p′ q q′)
 unfolding segments
-segments-upTo P P′ Q Q′ =
+segments-atMost P P′ Q Q′ =
     let d = minus-difference P′ P in
     let d′ = minus-difference Q′ Q in
     let r = minus-difference P Q in
@@ -122,5 +122,5 @@ segments-upTo P P′ Q Q′ =
     let e = dot-finite d′ d′ in
     let f = dot-finite d′ r in
     let at = closestPlaces-inUnit a b c e f in
-    let on = along-upTo P P′ (at .s) in
-    record { distance = apart-finite on (along-upTo Q Q′ (at .t)); witness = on }
+    let on = along-atMost P P′ (at .s) in
+    record { distance = apart-finite on (along-atMost Q Q′ (at .t)); witness = on }

@@ -1,4 +1,4 @@
--- `stores::length_of` meets its contract. Assumes nothing.
+-- `stores::length_of` meets its contract.
 use Rattle.store.specs.Bytes.{littleEndian}
 use borrow.Author.Needs.{needs}
 use Rattle.stores.proofs.length_of.Statement.{statement}

@@ -1,4 +1,4 @@
--- `stores::main` is safe and ends: the measure is the number of turns that are left. Assumes nothing.
+-- `stores::main` is safe and ends: the measure is the number of turns that are left.
 use borrow.Author.Needs.{needs}
 use Rattle.stores.proofs.main.Statement.{statement}
 use Rattle.stores.proofs.main.Tie as tie

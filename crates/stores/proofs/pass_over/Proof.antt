@@ -1,4 +1,4 @@
--- `stores::pass_over` meets its contract and ends: each turn leaves fewer bytes to come. Assumes nothing.
+-- `stores::pass_over` meets its contract and ends: each turn leaves fewer bytes to come.
 use Prim.Native.Nat.{_≤_}
 use mathlib.Core.Path.{_≡_}
 use lib.ListN.{length}

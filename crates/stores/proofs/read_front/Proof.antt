@@ -1,4 +1,4 @@
--- `stores::read_front` meets its contract. Assumes nothing.
+-- `stores::read_front` meets its contract.
 use native.Mathlib.Omega.{arith}
 use mathlib.Core.Path.{_≡_}
 use lib.ListN.{length, take, length-take}

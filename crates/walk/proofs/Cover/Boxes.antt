@@ -17,7 +17,7 @@ use Rattle.bands.specs.declared.shapes.RadialBand.{RadialBand}
 use Rattle.bands.proofs.HalfWidth.{LiesBetween, halfWidth-finite, halfWidth-not-negative, nearer-is-wider}
 use Rattle.bands.proofs.Limit.{InLimit}
 use Rattle.bands.proofs.Spans.{SpanFinite, span-nested, spanAt-finite}
-use Rattle.walk.specs.Pieces.{widest, narrowest, boxOf}
+use Rattle.walk.specs.Pieces.{widest, narrowest, pieceBox}
 use Rattle.walk.specs.declared.shapes.Piece.{Piece}
 use Rattle.walk.proofs.Demand.Pieces.{Sound, clamped, greatest-radius, least-radius, narrowest-finite, widest-finite}
 
@@ -51,14 +51,14 @@ module _ {b : RadialBand} (B : InLimit b) {p : Piece} (P : Sound p) {z : Float} 
       let c = finite-raise (clamped B P) tt in
       span-nested B half (halfWidth-finite B c) (halfWidth-not-negative B place) (nearer-is-wider B c place between)
 
-  pub box-inner : T (boxOf b p .r0 ≼ spanAt b (halfWidth b z) .lo)
-  unfolding boxOf widest narrowest
+  pub box-inner : T (pieceBox b p .r0 ≼ spanAt b (halfWidth b z) .lo)
+  unfolding pieceBox widest narrowest
   box-inner =
       key-le (least-radius B P) (at .lo)
       (omega (arith, nested .0, min-finite-key (widest-finite B P .lo) (narrowest-finite B P .lo)))
 
-  pub box-outer : T (spanAt b (halfWidth b z) .hi ≼ boxOf b p .r1)
-  unfolding boxOf widest narrowest
+  pub box-outer : T (spanAt b (halfWidth b z) .hi ≼ pieceBox b p .r1)
+  unfolding pieceBox widest narrowest
   box-outer =
       key-le (at .hi) (greatest-radius B P)
       (omega (arith, nested .1, max-finite-key (widest-finite B P .hi) (narrowest-finite B P .hi)))

@@ -13,7 +13,7 @@ use lib.Ieee.{Float, binary64, fits}
 use Rattle.arith.specs.F64.{_⊕_, _⊖_, _≺_, _≼_}
 use Rattle.roots.proofs.Rounding.KeyOrder.{le→key, key→le, key→lt}
 use Rattle.arith.proofs.Laws.Bounded.{between-bounded}
-use Rattle.walk.specs.Pieces.{wholeWidth, boxOf, variation}
+use Rattle.walk.specs.Pieces.{wholeWidth, pieceBox, variation}
 use Rattle.walk.specs.Walk.{Walk, boxHit, start, sampled, waiting, measured, walk, walkAll}
 use Rattle.walk.specs.Cover.{Covered, Covers}
 use Rattle.bands.specs.declared.shapes.RadialBand.{RadialBand}
@@ -46,9 +46,9 @@ module _ (s : List Float) (b : RadialBand) (tol : Float) (B : InLimit b) (t : To
       → Settles tol (boxHit s b p .distance) (variation b p) (p .z1 ⊖ p .z0) (K best)
       → T (best ≺ boxHit s b p .distance)
       ⊎ (T ((variation b p ≼ tol) || (p .z1 ⊖ p .z0 ≼ tol)) × T (best ≼ boxHit s b p .distance ⊕ variation b p))
-  settled best p nb P (inl h) = inl (key→lt binary64 best _ nb (box-number s (boxOf b p)) h)
+  settled best p nb P (inl h) = inl (key→lt binary64 best _ nb (box-number s (pieceBox b p)) h)
   settled best p nb P (inr h) =
-      let sum = sum-number binary64 _ (variation b p) (box-number s (boxOf b p)) (variation-finite B P .bounded .sure) in
+      let sum = sum-number binary64 _ (variation b p) (box-number s (pieceBox b p)) (variation-finite B P .bounded .sure) in
       inr (h .0, key→le binary64 best _ nb sum (h .1))
 
   covered : (w : Walk) → w .cut ≡ false → Number (w .best .distance) → (z : Float) → Finite 21 z → Found s b tol B t z w
@@ -57,8 +57,8 @@ module _ (s : List Float) (b : RadialBand) (tol : Float) (B : InLimit b) (t : To
       record {
         piece = f .piece;
         measured = f .seen;
-        from = unfold boxOf in key-le (f .sound .z0) Z (f .from);
-        to = unfold boxOf in key-le Z (f .sound .z1) (f .to);
+        from = unfold pieceBox in key-le (f .sound .z0) Z (f .from);
+        to = unfold pieceBox in key-le Z (f .sound .z1) (f .to);
         inner = box-inner B (f .sound) Z (f .from) (f .to);
         outer = box-outer B (f .sound) Z (f .from) (f .to);
         settled = rw e (settled (w .best .distance) (f .piece) nb (f .sound) (f .settles));

@@ -13,7 +13,7 @@ use Rattle.arith.specs.Num.{min}
 use Rattle.roots.proofs.Rounding.KeyOrder.{key→le}
 use Rattle.arith.proofs.Laws.Order.{min-infinity, min-key}
 use Rattle.profile.specs.declared.shapes.CollisionHit.{CollisionHit}
-use Rattle.walk.specs.Pieces.{boxOf}
+use Rattle.walk.specs.Pieces.{pieceBox}
 use Rattle.walk.specs.Walk.{Walk, start, boxHit, waiting, measured, walk, reported}
 use Rattle.walk.specs.Cover.{Least}
 use Rattle.bands.specs.declared.shapes.RadialBand.{RadialBand}
@@ -31,7 +31,7 @@ module _ (s : List Float) (b : RadialBand) where
   least-number : (l : List Piece) → Number (leastOf l)
   unfolding leastOf
   least-number [] = infinite
-  least-number (p ∷ l) = min-keeps Number (least-number l) (box-number s (boxOf b p))
+  least-number (p ∷ l) = min-keeps Number (least-number l) (box-number s (pieceBox b p))
 
   -- no greater than any
   least-low : (l : List Piece) (p : Piece) → List·Memᴰ p l → K (leastOf l) ≤ K (boxHit s b p .distance)
@@ -40,7 +40,7 @@ module _ (s : List Float) (b : RadialBand) where
   least-low (q ∷ l) p m = go (List·Memᴰ·cases-cons m) (least-low l p)
     where
       k : K (leastOf (q ∷ l)) ≡ minℕ (K (leastOf l)) (K (boxHit s b q .distance))
-      k = min-key binary64 (leastOf l) (boxHit s b q .distance) (least-number l) (box-number s (boxOf b q))
+      k = min-key binary64 (leastOf l) (boxHit s b q .distance) (least-number l) (box-number s (pieceBox b q))
 
       go : (p ≡ q) ⊎ List·Memᴰ p l → (List·Memᴰ p l → K (leastOf l) ≤ K (boxHit s b p .distance))
           → K (leastOf (q ∷ l)) ≤ K (boxHit s b p .distance)
@@ -85,7 +85,7 @@ module _ (s : List Float) (b : RadialBand) where
           equal = is ∙ o .equal;
           below = λ p m. subst (λ (x : Float). T (x ≼ boxHit s b p .distance)) (sym is)
               (key→le binary64 (leastOf (w .seen)) (boxHit s b p .distance) (least-number (w .seen))
-              (box-number s (boxOf b p)) (least-low (w .seen) p m));
+              (box-number s (pieceBox b p)) (least-low (w .seen) p m));
         }
       where
         w : Walk

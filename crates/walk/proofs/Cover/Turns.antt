@@ -13,7 +13,7 @@ use Rattle.arith.specs.F64.{_⊕_, _⊖_, _≺_, _≼_, e-12}
 use Rattle.roots.proofs.Rounding.KeyOrder.{key→le, lt→key, nlt→key}
 use Rattle.profile.specs.Vertices.{hit, nearer}
 use Rattle.profile.specs.declared.shapes.CollisionHit.{CollisionHit}
-use Rattle.walk.specs.Pieces.{boxOf, variation}
+use Rattle.walk.specs.Pieces.{pieceBox, variation}
 use Rattle.walk.specs.Walk.{dropped, better, halved, boxHit, waiting}
 use Rattle.bands.specs.declared.shapes.RadialBand.{RadialBand}
 use Rattle.walk.specs.declared.shapes.Piece.{Piece}
@@ -108,7 +108,7 @@ module _ (s : List Float) (b : RadialBand) (tol : Float) (B : InLimit b) (t : To
 
   pub turn-of : (j : ℕ) (p : Piece) (best : CollisionHit) → AtDepth j p → Number (best .distance) → TurnOf p best
   turn-of j p best P nb =
-      turn tol (boxHit s b p) (variation b p) best p (tolerance-number tol t) (box-number s (boxOf b p))
+      turn tol (boxHit s b p) (variation b p) best p (tolerance-number tol t) (box-number s (pieceBox b p))
       (variation-finite B (P .sound)) nb (finite-number (sub-finite (P .sound .z1) (P .sound .z0) tt))
 
   pub record Next (p : Piece) (ps : List Piece) (best : CollisionHit) : Type 0 where

@@ -7,7 +7,7 @@ use Rattle.profile.proofs.Each.{All, all-map, cons, nil}
 use Rattle.bands.specs.declared.shapes.RadialBand.{RadialBand}
 use Rattle.bands.proofs.AxialBox.{Ordered}
 use Rattle.bands.proofs.Limit.{InLimit}
-use Rattle.walk.specs.Pieces.{boxOf, wholeWidth}
+use Rattle.walk.specs.Pieces.{pieceBox, wholeWidth}
 use Rattle.walk.specs.Walk.{Walk, sampled, start, walk, walkAll}
 use Rattle.walk.specs.declared.shapes.Piece.{Piece}
 use Rattle.walk.proofs.Demand.Pieces.{Sound, boxOf-ordered, waiting-sound, wholeWidth-sound}
@@ -21,7 +21,7 @@ module _ (s : List Float) {b : RadialBand} (B : InLimit b) (tol : Float) where
   walk-sound (suc n) [] w A W = W
   walk-sound (suc n) (p ∷ ps) w (cons P A) W = walk-sound n _ _ (waiting-sound s b tol P A (w .best)) (cons P W)
 
-  pub walkAll-ordered : (cap n : ℕ) → All (λ (p : Piece). Ordered (boxOf b p)) (walkAll s b tol cap n .seen)
+  pub walkAll-ordered : (cap n : ℕ) → All (λ (p : Piece). Ordered (pieceBox b p)) (walkAll s b tol cap n .seen)
   unfolding walkAll
   walkAll-ordered cap n =
       all-map (λ p P. boxOf-ordered B P)

@@ -16,8 +16,8 @@ use Rattle.arith.proofs.Laws.Sizes.{Finite, K, M, add-finite, add-given, cond-k
 use Rattle.arith.proofs.Laws.Sizes.{max-keeps, min-keeps, sub-finite, sub-given, zero-finite}
 use Rattle.profile.specs.declared.shapes.CollisionHit.{CollisionHit}
 use Rattle.profile.proofs.Steps.{pick}
-use Rattle.section.proofs.Demand.Bounds.{finite-upTo}
-use Rattle.section.proofs.Demand.Hits.{BoxUpTo}
+use Rattle.section.proofs.Demand.Bounds.{finite-atMost}
+use Rattle.section.proofs.Demand.Hits.{BoxAtMost}
 use Rattle.profile.proofs.Each.{All, cons}
 use Rattle.bands.specs.Band.{halfWidth, mean, spanAt}
 use Rattle.bands.specs.declared.shapes.RadialBand.{RadialBand}
@@ -25,7 +25,7 @@ use Rattle.bands.proofs.AxialBox.{Ordered}
 use Rattle.bands.proofs.HalfWidth.{halfWidth-finite}
 use Rattle.bands.proofs.Limit.{InLimit}
 use Rattle.bands.proofs.Spans.{SpanFinite, span-least, span-order, spanAt-finite}
-use Rattle.walk.specs.Pieces.{boxOf, narrowest, piece, variation, wholeWidth, widest}
+use Rattle.walk.specs.Pieces.{pieceBox, narrowest, piece, variation, wholeWidth, widest}
 use Rattle.walk.specs.Walk.{boxHit, halved, halves, thinBox, waiting}
 use Rattle.walk.specs.declared.shapes.Piece.{Piece}
 
@@ -101,26 +101,26 @@ module _ {b : RadialBand} (B : InLimit b) where
     unfolding narrowest
     narrowest-finite = spanAt-finite B narrowest-half
 
-    pub least-radius : Finite 22 (boxOf b p .r0)
-    unfolding boxOf
+    pub least-radius : Finite 22 (pieceBox b p .r0)
+    unfolding pieceBox
     least-radius = min-keeps (Finite 22) (widest-finite .lo) (narrowest-finite .lo)
 
-    pub greatest-radius : Finite 22 (boxOf b p .r1)
-    unfolding boxOf
+    pub greatest-radius : Finite 22 (pieceBox b p .r1)
+    unfolding pieceBox
     greatest-radius = max-keeps (Finite 22) (widest-finite .hi) (narrowest-finite .hi)
 
-    pub boxOf-upTo : BoxUpTo 23 (boxOf b p)
-    unfolding boxOf
-    boxOf-upTo =
+    pub boxOf-atMost : BoxAtMost 23 (pieceBox b p)
+    unfolding pieceBox
+    boxOf-atMost =
         record {
-          z0 = finite-upTo (finite-raise (P .z0) tt);
-          z1 = finite-upTo (finite-raise (P .z1) tt);
-          r0 = finite-upTo (finite-raise least-radius tt);
-          r1 = finite-upTo (finite-raise greatest-radius tt);
+          z0 = finite-atMost (finite-raise (P .z0) tt);
+          z1 = finite-atMost (finite-raise (P .z1) tt);
+          r0 = finite-atMost (finite-raise least-radius tt);
+          r1 = finite-atMost (finite-raise greatest-radius tt);
         }
 
-    pub boxOf-ordered : Ordered (boxOf b p)
-    unfolding boxOf widest narrowest
+    pub boxOf-ordered : Ordered (pieceBox b p)
+    unfolding pieceBox widest narrowest
     boxOf-ordered =
         let w = widest-finite in
         let n = narrowest-finite in
@@ -152,14 +152,14 @@ module _ {b : RadialBand} (B : InLimit b) where
   thin-span : SpanFinite (spanAt b 𝟘)
   thin-span = spanAt-finite B (zero-finite 20)
 
-  pub thinBox-upTo : BoxUpTo 23 (thinBox b)
-  thinBox-upTo =
-      let z = finite-upTo (finite-raise (B .zc) tt) in
+  pub thinBox-atMost : BoxAtMost 23 (thinBox b)
+  thinBox-atMost =
+      let z = finite-atMost (finite-raise (B .zc) tt) in
       record {
         z0 = z;
         z1 = z;
-        r0 = finite-upTo (finite-raise (thin-span .lo) tt);
-        r1 = finite-upTo (finite-raise (thin-span .hi) tt);
+        r0 = finite-atMost (finite-raise (thin-span .lo) tt);
+        r1 = finite-atMost (finite-raise (thin-span .hi) tt);
       }
 
   pub thinBox-ordered : Ordered (thinBox b)

@@ -14,8 +14,8 @@ use Rattle.profile.specs.Vertices.{hit, nearer, nearestOf, vertex}
 use Rattle.profile.specs.declared.shapes.CollisionHit.{CollisionHit}
 use Rattle.profile.proofs.Numbers.{NumberHit, infinite, nearest-number}
 use Rattle.profile.proofs.Steps.{upto-keeps}
-use Rattle.section.proofs.Demand.Bounds.{finite-upTo}
-use Rattle.section.proofs.Demand.Hits.{BestUpTo, VertexUpTo, VerticesUpTo, nearer-best, none-yet}
+use Rattle.section.proofs.Demand.Bounds.{finite-atMost}
+use Rattle.section.proofs.Demand.Hits.{BestAtMost, VertexAtMost, VerticesAtMost, nearer-best, none-yet}
 use Rattle.section.proofs.Demand.Points.{point-best}
 use Rattle.section.proofs.Numbers.{point-number}
 use Rattle.bands.specs.Band.{halfWidth, spanAt}
@@ -23,7 +23,7 @@ use Rattle.bands.specs.declared.shapes.RadialBand.{RadialBand}
 use Rattle.bands.proofs.HalfWidth.{halfWidth-finite}
 use Rattle.bands.proofs.Limit.{InLimit}
 use Rattle.bands.proofs.Spans.{SpanFinite, spanAt-finite}
-use Rattle.walk.specs.Walk.{sampleAt, sampleZ, sampled}
+use Rattle.walk.specs.Walk.{sampleVertex, sampleZ, sampled}
 use Rattle.walk.proofs.Demand.Pieces.{wholeWidth-sound}
 
 module _ {b : RadialBand} (B : InLimit b) where
@@ -32,34 +32,34 @@ module _ {b : RadialBand} (B : InLimit b) where
       let w = wholeWidth-sound B in
       add-finite (w .z0) (mul-finite (sub-finite (w .z1) (w .z0) tt) (interval-finite N i h) tt) tt
 
-  sampleAt-upTo : {z : Float} → Finite 23 z → (j : ℕ) → VertexUpTo 23 (sampleAt b z j)
-  unfolding sampleAt
-  sampleAt-upTo {z} Z j = record { z = finite-upTo Z; r = finite-upTo (finite-raise (chosen j) tt) }
+  sampleAt-atMost : {z : Float} → Finite 23 z → (j : ℕ) → VertexAtMost 23 (sampleVertex b z j)
+  unfolding sampleVertex
+  sampleAt-atMost {z} Z j = record { z = finite-atMost Z; r = finite-atMost (finite-raise (chosen j) tt) }
     where
       r : SpanFinite (spanAt b (halfWidth b z))
       r = spanAt-finite B (halfWidth-finite B Z)
 
-      chosen : (j : ℕ) → Finite 22 (sampleAt b z j .r)
+      chosen : (j : ℕ) → Finite 22 (sampleVertex b z j .r)
       chosen zero = r .lo
       chosen (suc zero) = r .hi
       chosen (suc (suc j)) = half-finite (add-finite (r .lo) (r .hi) tt) tt
 
-  pub sampled-best : {s : List Float} → VerticesUpTo 23 s → {n : ℕ} → Intervals n → BestUpTo 27 (sampled s b n)
+  pub sampled-best : {s : List Float} → VerticesAtMost 23 s → {n : ℕ} → Intervals n → BestAtMost 27 (sampled s b n)
   unfolding sampled
   sampled-best {s} S {n} N =
-      upto-keeps (BestUpTo 27) (λ i best. nearestOf (λ j. pointDistance s (sampleAt b (sampleZ b n i) j)) best 3)
+      upto-keeps (BestAtMost 27) (λ i best. nearestOf (λ j. pointDistance s (sampleVertex b (sampleZ b n i) j)) best 3)
       (hit ∞ (vertex (b .zc) 𝟘)) (suc n)
-      (none-yet refl (record { z = finite-upTo (finite-raise (B .zc) tt); r = finite-upTo (zero-finite 25) }))
-      (λ i l best A. upto-keeps (BestUpTo 27)
-      (λ j best. nearer best (pointDistance s (sampleAt b (sampleZ b n i) j))) best 3 A
-      (λ j m c C. nearer-best C (point-best S (sampleAt-upTo (sampleZ-finite N i (le-of-suc-le-suc l)) j))))
+      (none-yet refl (record { z = finite-atMost (finite-raise (B .zc) tt); r = finite-atMost (zero-finite 25) }))
+      (λ i l best A. upto-keeps (BestAtMost 27)
+      (λ j best. nearer best (pointDistance s (sampleVertex b (sampleZ b n i) j))) best 3 A
+      (λ j m c C. nearer-best C (point-best S (sampleAt-atMost (sampleZ-finite N i (le-of-suc-le-suc l)) j))))
 
 pub sampled-number : (s : List Float) (b : RadialBand) (n : ℕ) → NumberHit (sampled s b n)
 unfolding sampled
 sampled-number s b n =
     upto-keeps NumberHit (λ i best. nearestOf (at i) best 3) (hit ∞ _) (suc n) infinite
     (λ i l x q. nearest-number (at i) x 3 q
-    (λ j. number-held binary64 (at i j .distance) (point-number s (sampleAt b (sampleZ b n i) j))))
+    (λ j. number-held binary64 (at i j .distance) (point-number s (sampleVertex b (sampleZ b n i) j))))
   where
     at : ℕ → ℕ → CollisionHit
-    at i j = pointDistance s (sampleAt b (sampleZ b n i) j)
+    at i j = pointDistance s (sampleVertex b (sampleZ b n i) j)

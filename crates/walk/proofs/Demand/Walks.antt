@@ -13,8 +13,8 @@ use Rattle.arith.proofs.Laws.OrderHeld.{none-above-inf}
 use Rattle.arith.proofs.Laws.Sizes.{add-finite, e-12-finite, Finite, finite-ends, finite-raise}
 use Rattle.profile.proofs.Steps.{pick}
 use Rattle.profile.specs.declared.shapes.CollisionHit.{CollisionHit}
-use Rattle.section.proofs.Demand.Boxes.{box-upTo}
-use Rattle.section.proofs.Demand.Hits.{BestUpTo, HitUpTo, LeastUpTo, VerticesUpTo, found, min-new, nearer-new}
+use Rattle.section.proofs.Demand.Boxes.{box-atMost}
+use Rattle.section.proofs.Demand.Hits.{BestAtMost, HitAtMost, LeastAtMost, VerticesAtMost, found, min-new, nearer-new}
 use Rattle.section.proofs.Demand.Hits.{best-raise, no-distance, none-yet, some-distance}
 use Rattle.profile.proofs.Each.{All, cons, nil}
 use Rattle.walk.specs.Walk.{Walk, better, dropped, measured, start, walk}
@@ -22,58 +22,58 @@ use Rattle.walk.specs.Walk.{walkAll, walked}
 use Rattle.walk.specs.declared.shapes.Piece.{Piece}
 use Rattle.bands.specs.declared.shapes.RadialBand.{RadialBand}
 use Rattle.bands.proofs.Limit.{InLimit}
-use Rattle.walk.proofs.Demand.Pieces.{Sound, boxOf-upTo, variation-finite, waiting-sound}
+use Rattle.walk.proofs.Demand.Pieces.{Sound, boxOf-atMost, variation-finite, waiting-sound}
 use Rattle.walk.proofs.Demand.Pieces.{wholeWidth-sound}
 use Rattle.walk.proofs.Demand.Samples.{sampled-best}
 
 -- nothing is dropped as long as best is +infinity
-better-upTo : {m best : CollisionHit} {v : Float} → HitUpTo 27 m → Finite 23 v → BestUpTo 28 best
-    → HitUpTo 28 (better m v best)
-better-upTo {m} {best} {v} H D A =
-    pick (HitUpTo 28) (dropped m best) (kept A)
+better-atMost : {m best : CollisionHit} {v : Float} → HitAtMost 27 m → Finite 23 v → BestAtMost 28 best
+    → HitAtMost 28 (better m v best)
+better-atMost {m} {best} {v} H D A =
+    pick (HitAtMost 28) (dropped m best) (kept A)
     (λ h. nearer-new A (record { distance = add-finite (H .distance) D tt; witness = H .witness }))
   where
-    kept : BestUpTo 28 best → T (best .distance ⊕ e-12 ≺ m .distance) → HitUpTo 28 best
+    kept : BestAtMost 28 best → T (best .distance ⊕ e-12 ≺ m .distance) → HitAtMost 28 best
     kept (found B) h = B
     kept (none-yet e w) h =
         absurd (none-above-inf (m .distance) (rw (infinity-plus e-12 (finite-ends e-12-finite) binary64) at (rw e at h)))
 
 -- ---- a walk that has measured a box
-pub record WalkUpTo (w : Walk) : Type 0 where
-  pub best : HitUpTo 28 (w .best)
+pub record WalkAtMost (w : Walk) : Type 0 where
+  pub best : HitAtMost 28 (w .best)
   pub least : Finite 27 (w .least)
 
-module _ {s : List Float} (S : VerticesUpTo 23 s) {b : RadialBand} (B : InLimit b) (tol : Float) where
-  measured-upTo : {p : Piece} → Sound p → (ps : List Piece) (w : Walk) → BestUpTo 28 (w .best)
-      → LeastUpTo 27 (w .least) → WalkUpTo (measured s b tol p ps w)
-  measured-upTo P ps w A L =
-      let m = box-upTo S (boxOf-upTo B P) in
-      record { best = better-upTo m (variation-finite B P) A; least = min-new L (m .distance) }
+module _ {s : List Float} (S : VerticesAtMost 23 s) {b : RadialBand} (B : InLimit b) (tol : Float) where
+  measured-atMost : {p : Piece} → Sound p → (ps : List Piece) (w : Walk) → BestAtMost 28 (w .best)
+      → LeastAtMost 27 (w .least) → WalkAtMost (measured s b tol p ps w)
+  measured-atMost P ps w A L =
+      let m = box-atMost S (boxOf-atMost B P) in
+      record { best = better-atMost m (variation-finite B P) A; least = min-new L (m .distance) }
 
-  walk-upTo : (n : ℕ) (ps : List Piece) (w : Walk) → All Sound ps → WalkUpTo w → WalkUpTo (walk s b tol n ps w)
+  walk-atMost : (n : ℕ) (ps : List Piece) (w : Walk) → All Sound ps → WalkAtMost w → WalkAtMost (walk s b tol n ps w)
   unfolding walk
-  walk-upTo zero [] w A W = W
-  walk-upTo zero (p ∷ ps) w A W = record { best = W .best; least = W .least }
-  walk-upTo (suc n) [] w A W = W
-  walk-upTo (suc n) (p ∷ ps) w (cons P A) W =
-      walk-upTo n _ _ (waiting-sound s b tol P A (w .best))
-      (measured-upTo P ps w (found (W .best)) (some-distance (W .least)))
+  walk-atMost zero [] w A W = W
+  walk-atMost zero (p ∷ ps) w A W = record { best = W .best; least = W .least }
+  walk-atMost (suc n) [] w A W = W
+  walk-atMost (suc n) (p ∷ ps) w (cons P A) W =
+      walk-atMost n _ _ (waiting-sound s b tol P A (w .best))
+      (measured-atMost P ps w (found (W .best)) (some-distance (W .least)))
 
   -- the first piece is measured, whatever the start
-  starts-upTo : (cap : ℕ) {p : Piece} → Sound p → {best : CollisionHit} → 0 < cap → BestUpTo 28 best
-      → WalkUpTo (walk s b tol cap (p ∷ []) (start best))
+  starts-atMost : (cap : ℕ) {p : Piece} → Sound p → {best : CollisionHit} → 0 < cap → BestAtMost 28 best
+      → WalkAtMost (walk s b tol cap (p ∷ []) (start best))
   unfolding walk
-  starts-upTo zero P l A = let c : ⊥ = omega arith in absurd c
-  starts-upTo (suc cap) P {best} l A =
-      walk-upTo cap _ _ (waiting-sound s b tol P nil best) (measured-upTo P [] (start best) A (no-distance refl))
+  starts-atMost zero P l A = let c : ⊥ = omega arith in absurd c
+  starts-atMost (suc cap) P {best} l A =
+      walk-atMost cap _ _ (waiting-sound s b tol P nil best) (measured-atMost P [] (start best) A (no-distance refl))
 
-  pub walkAll-upTo : (cap : ℕ) → 0 < cap → {n : ℕ} → Intervals n → WalkUpTo (walkAll s b tol cap n)
+  pub walkAll-atMost : (cap : ℕ) → 0 < cap → {n : ℕ} → Intervals n → WalkAtMost (walkAll s b tol cap n)
   unfolding walkAll
-  walkAll-upTo cap l N = starts-upTo cap (wholeWidth-sound B) l (best-raise (sampled-best B S N) tt)
+  walkAll-atMost cap l N = starts-atMost cap (wholeWidth-sound B) l (best-raise (sampled-best B S N) tt)
 
 -- what is reported, cut or not
-pub walked-upTo : {w : Walk} → WalkUpTo w → HitUpTo 28 (walked w .hit)
-walked-upTo {w} W =
+pub walked-atMost : {w : Walk} → WalkAtMost w → HitAtMost 28 (walked w .hit)
+walked-atMost {w} W =
     record {
       distance = pick (Finite 28) (w .cut) (λ h. finite-raise (W .least) tt) (λ h. W .best .distance);
       witness = W .best .witness;

@@ -1,11 +1,14 @@
 //! Times the Rust with libm's hypot, the Rust with the exact one, and the port: same process, same inputs.
-//! Prints a markdown table of medians. Usage: bench [MILLISECONDS PER SAMPLE]
 
 use checks::judge::vertices;
 use checks::random::Random;
 use jorghipa::{Cylinder, Point, Rectangle, Sphere};
 use std::hint::black_box;
 use std::time::{Duration, Instant};
+
+const USAGE: &str = "usage: bench [MILLISECONDS]
+Times the Rust with libm's hypot, the Rust with the exact one, and the port, and prints medians as a markdown table.
+MILLISECONDS (20 unless given) is the length of a sample.";
 
 const SAMPLES: usize = 15;
 const BODIES: usize = 64;
@@ -21,9 +24,10 @@ struct Row<'a> {
     ways: [Run<'a>; 3],
 }
 
-/// Nanoseconds per call, for at least this long.
+/// Nanoseconds per call, over one run or as many as take this long.
 fn sample(run: &mut Run, least: Duration) -> f64 {
-    let (start, mut calls) = (Instant::now(), 0);
+    let start = Instant::now();
+    let mut calls = run();
     while start.elapsed() < least {
         calls += run();
     }
@@ -200,7 +204,8 @@ fn print_row(mut row: Row, least: Duration) {
 }
 
 fn main() {
-    let milliseconds = std::env::args().nth(1).and_then(|word| word.parse().ok()).unwrap_or(20);
+    let numbers = arguments::numbers(&arguments::words(USAGE), [20]);
+    let [milliseconds] = numbers.unwrap_or_else(|problem| arguments::refuse(&problem, USAGE));
     let least = Duration::from_millis(milliseconds);
     println!("Median of {SAMPLES} samples of {milliseconds} ms, in nanoseconds per call.\n");
     println!("| call | vertices | Rust, libm's hypot | Rust, exact hypot | port | port / Rust with libm |");

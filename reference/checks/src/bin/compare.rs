@@ -9,7 +9,9 @@ use std::time::Instant;
 
 const USAGE: &str = "usage: compare [--seed N] [--accepted N] [--near N] [--kinds LETTERS,..]
        compare --write LIST ANSWERS [--seed N]     writes the fixed list and its answers
-       compare --list LIST ANSWERS                 runs the port on a list";
+       compare --list LIST ANSWERS                 runs the port on a list
+Compares the port with the published Rust and with the table of refusals: for each kind N accepted queries at each
+threshold (--near, 100000 unless given) and N more (--accepted, 1000000). Exit code 1 at a difference.";
 
 struct Options {
     seed: u64,
@@ -23,7 +25,7 @@ struct Options {
 fn options() -> Result<Options, String> {
     let mut options =
         Options { seed: 1, accepted: 1_000_000, near: 100_000, kinds: Kind::all(), write: None, list: None };
-    let mut words = std::env::args().skip(1);
+    let mut words = arguments::words(USAGE).into_iter();
     while let Some(word) = words.next() {
         let mut value = || words.next().ok_or(format!("{word} needs a value"));
         let number = |text: String| text.parse::<u64>().map_err(|_| format!("{text} is no number"));
@@ -43,17 +45,11 @@ fn options() -> Result<Options, String> {
 /// A kind by its letters.
 fn kind(letters: &str) -> Result<Kind, String> {
     let known = Kind::all().into_iter().find(|kind| kind.letters() == letters);
-    known.ok_or(format!("{letters} is no kind of this build"))
+    known.ok_or(format!("{letters} is no kind"))
 }
 
 fn main() -> ExitCode {
-    let options = match options() {
-        Ok(options) => options,
-        Err(problem) => {
-            eprintln!("{problem}\n{USAGE}");
-            return ExitCode::from(2);
-        }
-    };
+    let options = options().unwrap_or_else(|problem| arguments::refuse(&problem, USAGE));
     let done = match (&options.write, &options.list) {
         (Some((list, answers)), _) => checks::fixed::write(options.seed, list, answers),
         (_, Some((list, answers))) => replay(list, answers),
@@ -148,7 +144,7 @@ impl Outcomes {
     fn print(&self, kind: Kind) -> u64 {
         let total = self.counts.values().sum();
         println!("{kind:?}: {total} queries, {} accepted", self.accepted);
-        if kind == Kind::Cylinder {
+        if self.walked > 0 {
             println!("    {} accepted ones were walked, and {} of the walks were cut", self.walked, self.cut);
         }
         for (outcome, count) in &self.counts {

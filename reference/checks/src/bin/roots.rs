@@ -1,11 +1,14 @@
 //! Judges the port's sqrt and hypot by whole-number arithmetic; with the feature `mpfr` by MPFR too.
-//! Usage: roots [CASES [SEED]]
 
 use checks::random::Random;
 use checks::root_cases::{HYPOT, SQRT};
 use std::collections::BTreeMap;
 use std::process::ExitCode;
 use std::time::Instant;
+
+const USAGE: &str = "usage: roots [CASES [SEED]]
+Judges the port's sqrt and hypot by whole-number arithmetic, on hard and random operands from the seed.
+CASES is 100000000 unless given, SEED 1. Exit code 1 at a difference.";
 
 /// One case in so many is also judged by bisection over all of f64, which is slow.
 const PLAIN: u64 = 50_000;
@@ -90,16 +93,8 @@ fn run(cases: u64, seed: u64) -> Result<(), String> {
 }
 
 fn main() -> ExitCode {
-    let numbers: Result<Vec<u64>, _> = std::env::args().skip(1).map(|word| word.parse()).collect();
-    let (cases, seed) = match numbers.as_deref() {
-        Ok([]) => (100_000_000, 1),
-        Ok(&[cases]) => (cases, 1),
-        Ok(&[cases, seed]) => (cases, seed),
-        _ => {
-            eprintln!("usage: roots [CASES [SEED]]");
-            return ExitCode::from(2);
-        }
-    };
+    let numbers = arguments::numbers(&arguments::words(USAGE), [100_000_000, 1]);
+    let [cases, seed] = numbers.unwrap_or_else(|problem| arguments::refuse(&problem, USAGE));
     match run(cases, seed) {
         Ok(()) => ExitCode::SUCCESS,
         Err(problem) => {

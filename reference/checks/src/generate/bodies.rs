@@ -1,7 +1,6 @@
 //! Bodies: aimed at a vertex or an edge of the section, with gaps of every size, or anywhere.
 
 use super::{SMALL, Style, sections};
-use crate::query::Kind;
 use crate::random::Random;
 
 type Vertex = (f64, f64);
@@ -62,22 +61,24 @@ fn spread(random: &mut Random, radius: f64) -> (f64, f64) {
     }
 }
 
-/// The numbers of a point, sphere, box or cylinder.
-pub fn body(random: &mut Random, style: Style, kind: Kind, section: &[Vertex]) -> Vec<f64> {
-    match kind {
-        Kind::Point => {
-            let (z, r) = target(random, style, section);
-            let (x, y) = spread(random, r);
-            vec![x, y, z]
-        }
-        Kind::Sphere | Kind::VerdictSphere => {
-            let (z, r) = target(random, style, section);
-            let (x, y) = spread(random, r);
-            vec![x, y, z, size(random)]
-        }
-        Kind::Box | Kind::VerdictBox => rectangle(random, style, section).to_vec(),
-        _ => cylinder(random, style, section),
-    }
+/// Makes the numbers of a body beside a section.
+pub type Make = fn(&mut Random, Style, &[Vertex]) -> Vec<f64>;
+
+pub fn point(random: &mut Random, style: Style, section: &[Vertex]) -> Vec<f64> {
+    let (z, r) = target(random, style, section);
+    let (x, y) = spread(random, r);
+    vec![x, y, z]
+}
+
+pub fn sphere(random: &mut Random, style: Style, section: &[Vertex]) -> Vec<f64> {
+    let mut numbers = point(random, style, section);
+    numbers.push(size(random));
+    numbers
+}
+
+/// z0, z1, r0, r1.
+pub fn bounds(random: &mut Random, style: Style, section: &[Vertex]) -> Vec<f64> {
+    rectangle(random, style, section).to_vec()
 }
 
 /// A radius, a width or a height.
@@ -144,7 +145,7 @@ pub fn convex(random: &mut Random, style: Style, section: &[Vertex]) -> Vec<Vert
 }
 
 /// Along or across the spindle, a little tilted, or of no length. One in 200 is made to be walked, which takes long.
-fn cylinder(random: &mut Random, style: Style, section: &[Vertex]) -> Vec<f64> {
+pub fn cylinder(random: &mut Random, style: Style, section: &[Vertex]) -> Vec<f64> {
     let (z, r) = target(random, style, section);
     let (x, y) = spread(random, r);
     let length: f64 = random.pick(&[0.0, 1e-12, 1e-3, 1.0, 8.0, 30.0, 500.0]);

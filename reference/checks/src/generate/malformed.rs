@@ -109,6 +109,8 @@ fn bad_body(random: &mut Random, query: &mut Query) {
                 *radius = random.pick(&[-1.0, -1.1e-9, -1e-8, -50.0]);
             }
         }
-        _ => bad_number(random, query),
+        Kind::Sqrt | Kind::Hypot | Kind::Point | Kind::Convex | Kind::Polygon | Kind::VerdictConvex => {
+            bad_number(random, query);
+        }
     }
 }

@@ -122,24 +122,28 @@ fn well_formed(random: &mut Random, kind: Kind, style: Style) -> Query {
         Kind::Convex | Kind::VerdictConvex => {
             let section = section(random, style, 40);
             let convex = bodies::convex(random, style, &section);
-            Query::new(kind, &[list(&convex), list(&section)], &clearance(random, kind))
+            Query::new(kind, &[list(&convex), list(&section)], clearance(random, kind).as_slice())
         }
-        _ => {
-            let section = section(random, style, if kind == Kind::Cylinder { 12 } else { 256 });
-            let mut numbers = bodies::body(random, style, kind, &section);
-            numbers.extend(clearance(random, kind));
-            Query::new(kind, &[list(&section)], &numbers)
-        }
+        Kind::Point => beside(random, style, kind, 256, bodies::point),
+        Kind::Sphere | Kind::VerdictSphere => beside(random, style, kind, 256, bodies::sphere),
+        Kind::Box | Kind::VerdictBox => beside(random, style, kind, 256, bodies::bounds),
+        Kind::Cylinder => beside(random, style, kind, 12, bodies::cylinder),
+        Kind::VerdictCylinder => beside(random, style, kind, 256, bodies::cylinder),
     }
 }
 
-fn clearance(random: &mut Random, kind: Kind) -> Vec<f64> {
-    match kind {
-        Kind::VerdictSphere | Kind::VerdictBox | Kind::VerdictCylinder | Kind::VerdictConvex => {
-            vec![random.pick(&[0.0, 0.0, 0.5, 1e-9, 2e-9, 1e-8, 2.0, 5.0, 25.0, -1.0, -1e-8, 1_048_576.0])]
-        }
-        _ => Vec::new(),
-    }
+/// A body beside a section of at most `most` vertices.
+fn beside(random: &mut Random, style: Style, kind: Kind, most: usize, body: bodies::Make) -> Query {
+    let section = section(random, style, most);
+    let mut numbers = body(random, style, &section);
+    numbers.extend(clearance(random, kind));
+    Query::new(kind, &[list(&section)], &numbers)
+}
+
+/// A verdict's clearance; nothing for any other kind.
+fn clearance(random: &mut Random, kind: Kind) -> Option<f64> {
+    let sizes = [0.0, 0.0, 0.5, 1e-9, 2e-9, 1e-8, 2.0, 5.0, 25.0, -1.0, -1e-8, 1_048_576.0];
+    kind.judged().map(|_| random.pick(&sizes))
 }
 
 /// A builder's space: just enough, or more.

@@ -49,7 +49,9 @@ pub fn thresholds(kind: Kind) -> Vec<Threshold> {
         Kind::Section => builder::SECTION.to_vec(),
         Kind::Polygon => builder::POLYGON.to_vec(),
         Kind::Cylinder => cylinder::CYLINDER.to_vec(),
-        _ => vec![("clearance", clearance)],
+        Kind::VerdictSphere | Kind::VerdictBox | Kind::VerdictCylinder | Kind::VerdictConvex => {
+            vec![("clearance", clearance)]
+        }
     };
     let limit: (&'static str, Make) = ("limit 1,048,576", limit);
     makes.into_iter().chain([limit]).map(|(name, make)| Threshold { kind, name, make }).collect()
@@ -69,20 +71,17 @@ fn limit(random: &mut Random, kind: Kind) -> Near {
 
 /// A clearance beside the distance.
 fn clearance(random: &mut Random, kind: Kind) -> Near {
+    let judged = kind.judged().expect("only a verdict has a clearance");
     loop {
         let mut query = generate::drawn(random, kind);
         let last = query.numbers.len() - 1;
-        let base = match kind {
-            Kind::VerdictSphere => Kind::Sphere,
-            Kind::VerdictBox => Kind::Box,
-            Kind::VerdictCylinder => Kind::Cylinder,
-            _ => Kind::Convex,
-        };
-        let body = Query { kind: base, numbers: query.numbers[..last].to_vec(), ..query.clone() };
+        let body = Query::new(judged, &query.lists, &query.numbers[..last]);
         let distance = match judge::expected(&body) {
             Answer::Values(values) => values[0],
             Answer::Walked(hit, _) => hit[0],
-            _ => continue,
+            Answer::Refused(_) | Answer::Spoilt(_) | Answer::Split(_) | Answer::Built(..) | Answer::Verdict(_) => {
+                continue;
+            }
         };
         let threshold = distance + 1e-9;
         query.numbers[last] = random.near(threshold);

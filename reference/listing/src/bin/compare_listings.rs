@@ -1,15 +1,18 @@
 //! Runs the verified listing program and the reference on the same stores and counts differences.
-//! compare_listings PROGRAM [COUNT [SEED]]
 
 use listing_ref::listing;
 use listing_ref::stores::{S, Stores, example, in_order};
 use std::io::{Read, Write};
 use std::process::{Command, Stdio};
 
+const USAGE: &str = "usage: compare_listings PROGRAM [COUNT [SEED]]
+Runs PROGRAM and the reference on named stores and on COUNT generated ones (2000 unless given), from SEED (1).
+Exit code 1 at a difference.";
+
 /// The program's output on this input, handed over in pieces of this size.
 fn run(program: &str, store: &[u8], piece: usize) -> Vec<u8> {
-    let mut child =
-        Command::new(program).stdin(Stdio::piped()).stdout(Stdio::piped()).spawn().expect("the program runs");
+    let child = Command::new(program).stdin(Stdio::piped()).stdout(Stdio::piped()).spawn();
+    let mut child = child.unwrap_or_else(|error| arguments::refuse(&format!("{program}: {error}"), USAGE));
     let mut input = child.stdin.take().unwrap();
     for part in store.chunks(piece) {
         input.write_all(part).unwrap();
@@ -45,10 +48,11 @@ fn named() -> Vec<Vec<u8>> {
 }
 
 fn main() {
-    let mut arguments = std::env::args().skip(1);
-    let program = arguments.next().expect("compare_listings PROGRAM [COUNT [SEED]]");
-    let count: usize = arguments.next().map_or(2_000, |x| x.parse().unwrap());
-    let mut generated = Stores::new(arguments.next().map_or(1, |x| x.parse().unwrap()));
+    let words = arguments::words(USAGE);
+    let Some((program, rest)) = words.split_first() else { arguments::refuse("PROGRAM is missing", USAGE) };
+    let numbers = arguments::numbers(rest, [2_000, 1]);
+    let [count, seed] = numbers.unwrap_or_else(|problem| arguments::refuse(&problem, USAGE));
+    let mut generated = Stores::new(seed);
     let mut stores = named();
     for i in 0..count {
         let store = generated.store();
@@ -59,7 +63,7 @@ fn main() {
     for (i, store) in stores.iter().enumerate() {
         let expected = listing(store);
         let piece = if i % 16 == 0 { 7 } else { 1 << 16 };
-        let got = run(&program, store, piece);
+        let got = run(program, store, piece);
         longest = longest.max(expected.len());
         *answers.entry(kind_of(&expected)).or_insert(0) += 1;
         if got != expected.as_bytes() {

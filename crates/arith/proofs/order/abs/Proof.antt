@@ -1,4 +1,4 @@
--- `arith::order::abs` meets its contract. Assumes nothing.
+-- `arith::order::abs` meets its contract.
 use Rattle.arith.proofs.order.abs.Statement.{statement}
 use Rattle.arith.proofs.order.abs.Tie as tie
 

@@ -1,4 +1,4 @@
--- `arith::order::clamp` meets its contract. Assumes nothing.
+-- `arith::order::clamp` meets its contract.
 use Rattle.arith.proofs.order.clamp.Statement.{statement}
 use Rattle.arith.proofs.order.clamp.Tie as tie
 

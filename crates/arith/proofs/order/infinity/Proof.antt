@@ -1,4 +1,4 @@
--- `arith::order::infinity` meets its contract: IEEE 754's 1 / 0. Assumes nothing.
+-- `arith::order::infinity` meets its contract: IEEE 754's 1 / 0.
 use mathlib.Core.Path.{refl}
 use lib.Ieee.{ofBits, div}
 use Rattle.arith.proofs.order.infinity.Statement.{statement}

@@ -1,4 +1,4 @@
--- `arith::order::is_finite` meets its contract: finite is above minus infinity and below infinity. Assumes nothing.
+-- `arith::order::is_finite` meets its contract: finite is above minus infinity and below infinity.
 use borrow.Author.Needs.{needs}
 use mathlib.Core.Bool.{true, false}
 use mathlib.Core.Path.{_≡_, refl, sym}

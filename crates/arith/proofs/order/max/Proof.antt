@@ -1,4 +1,4 @@
--- `arith::order::max` meets its contract. Assumes nothing.
+-- `arith::order::max` meets its contract.
 use Rattle.arith.proofs.order.max.Statement.{statement}
 use Rattle.arith.proofs.order.max.Tie as tie
 

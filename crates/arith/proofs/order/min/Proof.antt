@@ -1,4 +1,4 @@
--- `arith::order::min` meets its contract. Assumes nothing.
+-- `arith::order::min` meets its contract.
 use Rattle.arith.proofs.order.min.Statement.{statement}
 use Rattle.arith.proofs.order.min.Tie as tie
 

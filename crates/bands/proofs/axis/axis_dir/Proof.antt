@@ -1,5 +1,5 @@
--- `bands::axis::axis_dir` meets its contract. Assumes nothing.
-use Rattle.bands.specs.Axis.{direction}
+-- `bands::axis::axis_dir` meets its contract.
+use Rattle.bands.specs.Axis.{axisDir}
 use borrow.Author.Needs.{needs}
 use Rattle.bands.proofs.axis.axis_dir.Statement.{statement}
 use Rattle.bands.proofs.axis.axis_dir.Tie as tie
@@ -11,7 +11,7 @@ length-requires : tie.Need-length-requires
 length-requires c κs = search needs
 
 returns : tie.Need-returns
-unfolding direction
+unfolding axisDir
 returns c =
     let short = rw (c .before .length .ensures, c .before .before .sub .ensures) at (c .if1 .taken) in
     rw short
@@ -20,7 +20,7 @@ unit-requires : tie.Need-unit-requires
 unit-requires c κs = search needs
 
 returns-2 : tie.Need-returns-2
-unfolding direction
+unfolding axisDir
 returns-2 c =
     let test = c .before in
     let length = test .before .length .ensures in

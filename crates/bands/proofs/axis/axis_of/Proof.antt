@@ -1,4 +1,4 @@
--- `bands::axis::axis_of` meets its contract. Assumes nothing.
+-- `bands::axis::axis_of` meets its contract.
 use Rattle.bands.specs.Axis.{axis}
 use borrow.Author.Needs.{needs}
 use Rattle.bands.proofs.axis.axis_of.Statement.{statement}

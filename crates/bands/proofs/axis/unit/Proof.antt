@@ -1,4 +1,4 @@
--- `bands::axis::unit` meets its contract. Assumes nothing.
+-- `bands::axis::unit` meets its contract.
 use borrow.Author.Needs.{needs}
 use Rattle.bands.proofs.axis.unit.Statement.{statement}
 use Rattle.bands.proofs.axis.unit.Tie as tie

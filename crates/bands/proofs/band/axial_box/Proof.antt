@@ -1,4 +1,4 @@
--- `bands::band::axial_box` meets its contract. Assumes nothing.
+-- `bands::band::axial_box` meets its contract.
 use Rattle.bands.specs.Band.{axialBox}
 use borrow.Author.Needs.{needs}
 use Rattle.bands.proofs.band.axial_box.Statement.{statement}

@@ -1,4 +1,4 @@
--- `bands::band::closest_to_zero` meets its contract. Assumes nothing.
+-- `bands::band::closest_to_zero` meets its contract.
 use Rattle.bands.proofs.band.closest_to_zero.Statement.{statement}
 use Rattle.bands.proofs.band.closest_to_zero.Tie as tie
 

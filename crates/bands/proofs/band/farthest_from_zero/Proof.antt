@@ -1,4 +1,4 @@
--- `bands::band::farthest_from_zero` meets its contract. Assumes nothing.
+-- `bands::band::farthest_from_zero` meets its contract.
 use Rattle.bands.proofs.band.farthest_from_zero.Statement.{statement}
 use Rattle.bands.proofs.band.farthest_from_zero.Tie as tie
 

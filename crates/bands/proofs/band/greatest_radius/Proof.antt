@@ -1,4 +1,4 @@
--- `bands::band::greatest_radius` meets its contract: where the ends are in order, the farthest corner has it. Assumes nothing.
+-- `bands::band::greatest_radius` meets its contract: where the ends are in order, the farthest corner has it.
 use borrow.Author.Needs.{needs}
 use lib.Ieee.{binary64}
 use Rattle.arith.proofs.Laws.HypotCorner.{farthest-corner}

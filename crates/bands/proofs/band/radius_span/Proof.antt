@@ -1,4 +1,4 @@
--- `bands::band::radius_span` meets its contract. Assumes nothing.
+-- `bands::band::radius_span` meets its contract.
 use borrow.Author.Needs.{needs}
 use Rattle.bands.proofs.band.radius_span.Statement.{statement}
 use Rattle.bands.proofs.band.radius_span.Tie as tie

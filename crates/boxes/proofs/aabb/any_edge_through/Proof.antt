@@ -1,17 +1,17 @@
--- `boxes::aabb::any_edge_through` meets its contract: a search, nothing found so far. Assumes nothing.
+-- `boxes::aabb::any_edge_through` meets its contract: a search, nothing found so far.
 use Prim.Native.Nat.{_≤_, _-_}
 use native.Mathlib.Omega.{arith}
 use mathlib.Core.Bool.{false}
 use mathlib.Core.Path.{_≡_, refl}
 use borrow.Author.Needs.{needs}
 use Rattle.profile.specs.Vertices.{vertexAt, endAt, any}
-use Rattle.boxes.specs.Boxes.{crossesBox}
+use Rattle.boxes.specs.Boxes.{segmentThroughInterior}
 use Rattle.profile.proofs.Fold.{any-more, any-end, any-at}
 use Rattle.boxes.proofs.aabb.any_edge_through.Statement.{statement}
 use Rattle.boxes.proofs.aabb.any_edge_through.Tie as tie
 
 abbrev Inv-loop : tie.InvT-loop
-Inv-loop s x n k₀ k = (k ≤ n) × (any (λ j. crossesBox x (vertexAt s j) (endAt s j)) k ≡ false)
+Inv-loop s x n k₀ k = (k ≤ n) × (any (λ j. segmentThroughInterior x (vertexAt s j) (endAt s j)) k ≡ false)
 
 abbrev μ-loop : tie.MeasureT-loop
 μ-loop s x n k₀ k = n - k

@@ -1,17 +1,17 @@
--- `boxes::aabb::any_vertex_inside` meets its contract: a search, nothing found so far. Assumes nothing.
+-- `boxes::aabb::any_vertex_inside` meets its contract: a search, nothing found so far.
 use Prim.Native.Nat.{_≤_, _-_}
 use native.Mathlib.Omega.{arith}
 use mathlib.Core.Bool.{false}
 use mathlib.Core.Path.{_≡_, refl}
 use borrow.Author.Needs.{needs}
 use Rattle.profile.specs.Vertices.{vertexAt, any}
-use Rattle.boxes.specs.Boxes.{wellInside}
+use Rattle.boxes.specs.Boxes.{strictlyInsideAabb}
 use Rattle.profile.proofs.Fold.{any-more, any-end, any-at}
 use Rattle.boxes.proofs.aabb.any_vertex_inside.Statement.{statement}
 use Rattle.boxes.proofs.aabb.any_vertex_inside.Tie as tie
 
 abbrev Inv-loop : tie.InvT-loop
-Inv-loop s x n k₀ k = (k ≤ n) × (any (λ j. wellInside x (vertexAt s j)) k ≡ false)
+Inv-loop s x n k₀ k = (k ≤ n) × (any (λ j. strictlyInsideAabb x (vertexAt s j)) k ≡ false)
 
 abbrev μ-loop : tie.MeasureT-loop
 μ-loop s x n k₀ k = n - k

@@ -1,4 +1,4 @@
--- `boxes::aabb::box_distance` meets its contract. Assumes nothing.
+-- `boxes::aabb::box_distance` meets its contract.
 use Rattle.boxes.specs.Boxes.{boxDistance}
 use borrow.Author.Needs.{needs}
 use Rattle.points.proofs.Asked.{result-asked}

@@ -1,4 +1,4 @@
--- `boxes::aabb::box_gap` meets its contract: a fold. Assumes nothing.
+-- `boxes::aabb::box_gap` meets its contract: a fold.
 use Prim.Native.Nat.{_≤_, _-_}
 use native.Mathlib.Omega.{arith}
 use mathlib.Core.Path.{_≡_}

@@ -1,4 +1,4 @@
--- `boxes::aabb::box_overlaps` meets its contract. Assumes nothing.
+-- `boxes::aabb::box_overlaps` meets its contract.
 use borrow.Author.Needs.{needs}
 use Rattle.boxes.specs.Boxes.{boxHolds}
 use Rattle.boxes.proofs.aabb.box_overlaps.Statement.{statement}

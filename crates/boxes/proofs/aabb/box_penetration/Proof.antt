@@ -1,4 +1,4 @@
--- `boxes::aabb::box_penetration` meets its contract. Assumes nothing.
+-- `boxes::aabb::box_penetration` meets its contract.
 use Rattle.boxes.specs.Boxes.{boxPenetration}
 use borrow.Author.Needs.{needs}
 use Rattle.profile.specs.Vertices.{upto}

@@ -1,4 +1,4 @@
--- `boxes::aabb::edge_through` meets its contract. Assumes nothing.
+-- `boxes::aabb::edge_through` meets its contract.
 use borrow.Author.Needs.{needs}
 use Rattle.boxes.proofs.aabb.edge_through.Statement.{statement}
 use Rattle.boxes.proofs.aabb.edge_through.Tie as tie

@@ -1,4 +1,4 @@
--- `boxes::aabb::gap_at` meets its contract. Assumes nothing.
+-- `boxes::aabb::gap_at` meets its contract.
 use borrow.Author.Needs.{needs}
 use Rattle.boxes.proofs.aabb.gap_at.Statement.{statement}
 use Rattle.boxes.proofs.aabb.gap_at.Tie as tie

@@ -1,4 +1,4 @@
--- `boxes::aabb::nearest_side` meets its contract. Assumes nothing.
+-- `boxes::aabb::nearest_side` meets its contract.
 use borrow.Author.Needs.{needs}
 use Rattle.profile.specs.Vertices.{upto}
 use Rattle.boxes.proofs.aabb.nearest_side.Statement.{statement}

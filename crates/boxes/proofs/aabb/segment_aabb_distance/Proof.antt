@@ -1,4 +1,4 @@
--- `boxes::aabb::segment_aabb_distance` meets its contract: the sides are sought from the best on. Assumes nothing.
+-- `boxes::aabb::segment_aabb_distance` meets its contract: the sides are sought from the best on.
 use Rattle.boxes.specs.Boxes.{edgeBox}
 use borrow.Author.Needs.{needs}
 use Rattle.segments.proofs.Held.{segments-held}

@@ -1,5 +1,5 @@
--- `boxes::aabb::segment_through_interior` meets its contract. Assumes nothing.
-use Rattle.boxes.specs.Boxes.{crossesBox}
+-- `boxes::aabb::segment_through_interior` meets its contract.
+use Rattle.boxes.specs.Boxes.{segmentThroughInterior}
 use borrow.Author.Needs.{needs}
 use Rattle.boxes.proofs.aabb.segment_through_interior.Statement.{statement}
 use Rattle.boxes.proofs.aabb.segment_through_interior.Tie as tie
@@ -20,7 +20,7 @@ strictly-inside-aabb-requires : tie.Need-strictly-inside-aabb-requires
 strictly-inside-aabb-requires c κs = search needs
 
 returns : tie.Need-returns
-unfolding crossesBox
+unfolding segmentThroughInterior
 returns c =
     rw (
       ← c .before .before .before .before .before .clip-segment .ensures,
@@ -32,7 +32,7 @@ returns c =
     )
 
 returns-2 : tie.Need-returns-2
-unfolding crossesBox
+unfolding segmentThroughInterior
 returns-2 c = rw (← c .before .clip-segment .ensures, c .if1 .left)
 
 pub segment-through-interior-spec : {M : Type 1} → statement M

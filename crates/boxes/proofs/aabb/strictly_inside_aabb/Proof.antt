@@ -1,10 +1,10 @@
--- `boxes::aabb::strictly_inside_aabb` meets its contract. Assumes nothing.
-use Rattle.boxes.specs.Boxes.{wellInside}
+-- `boxes::aabb::strictly_inside_aabb` meets its contract.
+use Rattle.boxes.specs.Boxes.{strictlyInsideAabb}
 use Rattle.boxes.proofs.aabb.strictly_inside_aabb.Statement.{statement}
 use Rattle.boxes.proofs.aabb.strictly_inside_aabb.Tie as tie
 
 returns : tie.Need-returns
-unfolding wellInside
+unfolding strictlyInsideAabb
 returns c =
     rw (
       c .before .before .before .before .before .before .before .before .if1 .taken,
@@ -13,7 +13,7 @@ returns c =
     )
 
 returns-2 : tie.Need-returns-2
-unfolding wellInside
+unfolding strictlyInsideAabb
 returns-2 c =
     rw (
       c .before .before .before .before .before .before .if1 .taken,
@@ -22,11 +22,11 @@ returns-2 c =
     )
 
 returns-3 : tie.Need-returns-3
-unfolding wellInside
+unfolding strictlyInsideAabb
 returns-3 c = rw (c .before .before .before .if1 .taken, c .if2 .left)
 
 returns-4 : tie.Need-returns-4
-unfolding wellInside
+unfolding strictlyInsideAabb
 returns-4 c = rw (c .if1 .left)
 
 pub strictly-inside-aabb-spec : {M : Type 1} → statement M

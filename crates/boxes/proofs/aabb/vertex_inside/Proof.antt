@@ -1,4 +1,4 @@
--- `boxes::aabb::vertex_inside` meets its contract. Assumes nothing.
+-- `boxes::aabb::vertex_inside` meets its contract.
 use borrow.Author.Needs.{needs}
 use Rattle.boxes.proofs.aabb.vertex_inside.Statement.{statement}
 use Rattle.boxes.proofs.aabb.vertex_inside.Tie as tie

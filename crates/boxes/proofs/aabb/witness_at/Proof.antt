@@ -1,4 +1,4 @@
--- `boxes::aabb::witness_at` meets its contract. Assumes nothing.
+-- `boxes::aabb::witness_at` meets its contract.
 use borrow.Author.Needs.{needs}
 use Rattle.boxes.proofs.aabb.witness_at.Statement.{statement}
 use Rattle.boxes.proofs.aabb.witness_at.Tie as tie

@@ -1,4 +1,4 @@
--- `builders::builder::any_below_axis` meets its contract. Assumes nothing.
+-- `builders::builder::any_below_axis` meets its contract.
 use Prim.Native.Nat.{_≤_, _-_}
 use native.Mathlib.Omega.{arith}
 use mathlib.Core.Bool.{false}

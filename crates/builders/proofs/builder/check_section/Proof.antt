@@ -1,4 +1,4 @@
--- `builders::builder::check_section` meets its contract. Assumes nothing.
+-- `builders::builder::check_section` meets its contract.
 use native.Mathlib.Omega.{arith}
 use mathlib.Core.Path.{sym, _∙_}
 use borrow.Author.Needs.{needs}

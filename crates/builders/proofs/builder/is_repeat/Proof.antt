@@ -1,4 +1,4 @@
--- `builders::builder::is_repeat` meets its contract. Assumes nothing.
+-- `builders::builder::is_repeat` meets its contract.
 use borrow.Author.Needs.{needs}
 use borrow.Author.Tests.{lt-ltb, le-ltb}
 use Rattle.builders.proofs.builder.is_repeat.Statement.{statement}

@@ -1,4 +1,4 @@
--- `builders::builder::point_at` meets its contract. Assumes nothing.
+-- `builders::builder::point_at` meets its contract.
 use borrow.Author.Needs.{needs}
 use Rattle.builders.proofs.builder.point_at.Statement.{statement}
 use Rattle.builders.proofs.builder.point_at.Tie as tie

@@ -1,4 +1,4 @@
--- `builders::builder::push_dedup` meets its contract. Assumes nothing.
+-- `builders::builder::push_dedup` meets its contract.
 use Rattle.builders.specs.Steps.{pushed, pushedSpace}
 use borrow.Author.Needs.{needs}
 use Rattle.builders.proofs.builder.push_dedup.Statement.{statement}

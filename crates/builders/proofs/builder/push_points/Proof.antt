@@ -1,5 +1,5 @@
 -- `builders::builder::push_points` meets its contract: after k points, run and space are those of what is kept of them.
--- Assumes nothing.
+--
 use Prim.Native.Nat.{_≤_, _-_}
 use native.Mathlib.Omega.{arith}
 use mathlib.Core.Path.{_≡_, refl}
@@ -7,14 +7,14 @@ use lib.Seq.{take-nil}
 use borrow.Author.Needs.{needs}
 use Rattle.profile.specs.Vertices.{count, upto}
 use Rattle.builders.specs.Builder.{filled}
-use Rattle.builders.specs.Steps.{keptPoints, runOf, upTo}
+use Rattle.builders.specs.Steps.{keptPoints, runOf, frontKept}
 use Rattle.builders.proofs.Builders.Points.{count-most, same-long, run-turned, space-turned}
 use Rattle.builders.proofs.builder.push_points.Statement.{statement}
 use Rattle.builders.proofs.builder.push_points.Tie as tie
 
 abbrev Inv-loop : tie.InvT-loop
 Inv-loop points raise space₀ limit n run₀ k₀ space run k =
-    (k ≤ n) × (run ≡ runOf (keptPoints raise points k)) × (space ≡ upTo limit (keptPoints raise points k) space₀)
+    (k ≤ n) × (run ≡ runOf (keptPoints raise points k)) × (space ≡ frontKept limit (keptPoints raise points k) space₀)
 
 abbrev μ-loop : tie.MeasureT-loop
 μ-loop points raise space₀ limit n run₀ k₀ space run k = n - k

@@ -1,4 +1,4 @@
--- `builders::builder::push_polygon` meets its contract. Assumes nothing.
+-- `builders::builder::push_polygon` meets its contract.
 use native.Mathlib.Omega.{arith}
 use mathlib.Core.Path.{_∙_}
 use borrow.Author.Needs.{needs}

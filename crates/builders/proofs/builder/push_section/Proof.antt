@@ -1,4 +1,4 @@
--- `builders::builder::push_section` meets its contract. Assumes nothing.
+-- `builders::builder::push_section` meets its contract.
 use native.Mathlib.Omega.{arith}
 use mathlib.Core.Path.{ap}
 use borrow.Author.Needs.{needs}

@@ -1,4 +1,4 @@
--- `builders::builder::put` meets its contract. Assumes nothing.
+-- `builders::builder::put` meets its contract.
 use native.Mathlib.Omega.{arith}
 use lib.ListN.{length-set}
 use borrow.Author.Tests.{le-ltb, lt-ltb}

@@ -1,4 +1,4 @@
--- `builders::builder::same_point` meets its contract. Assumes nothing.
+-- `builders::builder::same_point` meets its contract.
 use borrow.Author.Needs.{needs}
 use Rattle.builders.specs.Builder.{samePoint}
 use Rattle.builders.proofs.builder.same_point.Statement.{statement}

@@ -1,4 +1,4 @@
--- `builders::builder::three_kept` meets its contract. Assumes nothing.
+-- `builders::builder::three_kept` meets its contract.
 use borrow.Author.Needs.{needs}
 use borrow.Author.Needs.{needs}
 use borrow.Author.Tests.{lt-ltb, le-ltb}

@@ -1,5 +1,5 @@
--- `builders::builder::try_from_polygon` meets its contract. Assumes nothing.
-use mathlib.Core.Path.{_∙_, ap, sym}
+-- `builders::builder::try_from_polygon` meets its contract.
+use mathlib.Core.Path.{_∙_, ap, refl, sym}
 use lib.ListN.{length}
 use borrow.Author.Needs.{needs}
 use Rattle.builders.proofs.Builders.Written.{handed, polygon-long}
@@ -22,7 +22,7 @@ slice-aggregate-result c =
 returns : tie.Need-returns
 returns c =
     let e = c .before .before .before .before .write-polygon .ensures in
-    handed _ _ (polygon-long _ _ (c .before .before .before .before .write-polygon .result) (c .before .handed-back .ensures) (e .equal)) (e .space-after)
+    (handed _ _ (polygon-long _ _ (c .before .before .before .before .write-polygon .result) (c .before .handed-back .ensures) (e .equal)) (e .space-after), refl)
 
 pub try-from-polygon-spec : {M : Type 1} → statement M
 try-from-polygon-spec =

@@ -1,5 +1,5 @@
--- `builders::builder::try_from_section` meets its contract. Assumes nothing.
-use mathlib.Core.Path.{_∙_, ap, sym}
+-- `builders::builder::try_from_section` meets its contract.
+use mathlib.Core.Path.{_∙_, ap, refl, sym}
 use lib.ListN.{length}
 use borrow.Author.Needs.{needs}
 use Rattle.builders.proofs.Builders.Written.{handed, section-long}
@@ -22,7 +22,7 @@ slice-aggregate-result c =
 returns : tie.Need-returns
 returns c =
     let e = c .before .before .before .before .write-section .ensures in
-    handed _ _ (section-long _ _ (c .before .before .before .before .write-section .result) (c .before .handed-back .ensures) (e .equal)) (e .space-after)
+    (handed _ _ (section-long _ _ (c .before .before .before .before .write-section .result) (c .before .handed-back .ensures) (e .equal)) (e .space-after), refl)
 
 pub try-from-section-spec : {M : Type 1} → statement M
 try-from-section-spec =

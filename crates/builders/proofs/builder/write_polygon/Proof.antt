@@ -1,4 +1,4 @@
--- `builders::builder::write_polygon` meets its contract. Assumes nothing.
+-- `builders::builder::write_polygon` meets its contract.
 use native.Mathlib.Omega.{arith}
 use mathlib.Core.Path.{_∙_, ap, sym}
 use borrow.Author.Needs.{needs}

@@ -1,12 +1,12 @@
 -- `convex::convex::any_cross` meets its contract: while it searches, no row below i has a proper crossing, and no
--- edge below j in row i. Assumes nothing.
+-- edge below j in row i.
 use Prim.Native.Nat.{_≤_, _-_}
 use native.Mathlib.Omega.{arith}
 use mathlib.Core.Bool.{false}
 use mathlib.Core.Path.{_≡_, refl, sym, ap, _∙_}
 use borrow.Author.Needs.{needs}
 use Rattle.profile.specs.Vertices.{vertexAt, endAt, any}
-use Rattle.convex.specs.Convex.{properCrossing, rowCrossing, anyCrossing}
+use Rattle.convex.specs.Convex.{properCross, rowCrossing, anyCross}
 use Rattle.profile.proofs.Fold.{any-more, any-end, any-at}
 use Rattle.convex.proofs.convex.any_cross.Statement.{statement}
 use Rattle.convex.proofs.convex.any_cross.Tie as tie
@@ -15,7 +15,7 @@ abbrev Inv-loop : tie.InvT-loop
 Inv-loop c s n m found₀ i a b j₀ found j =
     (j ≤ m)
     × (found ≡ false)
-    × (any (λ k. properCrossing a b (vertexAt s k) (endAt s k)) j ≡ false)
+    × (any (λ k. properCross a b (vertexAt s k) (endAt s k)) j ≡ false)
 
 abbrev μ-loop : tie.MeasureT-loop
 μ-loop c s n m found₀ i a b j₀ found j = m - j
@@ -74,11 +74,11 @@ search-again c = (
 )
 
 returns : tie.Need-returns Inv-loop μ-loop Inv-search μ-search
-unfolding anyCrossing
+unfolding anyCross
 returns c = c .before .search .inv .1 ∙ any-end _ _ (c .before .search .inv .2) _ (omega arith)
 
 returns-2 : tie.Need-returns-2 Inv-loop μ-loop Inv-search μ-search
-unfolding anyCrossing rowCrossing
+unfolding anyCross rowCrossing
 returns-2 c =
     let row = c .before .before .before .before in
     let cross = rw (row .before .vertex-at .ensures, row .end-at .ensures) at (c .before .crosses-edge .ensures) in

@@ -1,4 +1,4 @@
--- `convex::convex::closer_edge` meets its contract. Assumes nothing.
+-- `convex::convex::closer_edge` meets its contract.
 use Rattle.segments.specs.Segments.{closest}
 use borrow.Author.Needs.{needs}
 use Rattle.convex.proofs.convex.closer_edge.Statement.{statement}

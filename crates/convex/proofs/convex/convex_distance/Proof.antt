@@ -1,4 +1,4 @@
--- `convex::convex::convex_distance` meets its contract. Assumes nothing.
+-- `convex::convex::convex_distance` meets its contract.
 use borrow.Author.Needs.{needs}
 use Rattle.convex.specs.Convex.{convexDistance}
 use Rattle.points.proofs.Asked.{result-asked}

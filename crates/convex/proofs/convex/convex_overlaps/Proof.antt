@@ -1,4 +1,4 @@
--- `convex::convex::convex_overlaps` meets its contract. Assumes nothing.
+-- `convex::convex::convex_overlaps` meets its contract.
 use borrow.Author.Needs.{needs}
 use Rattle.convex.proofs.convex.convex_overlaps.Statement.{statement}
 use Rattle.convex.proofs.convex.convex_overlaps.Tie as tie

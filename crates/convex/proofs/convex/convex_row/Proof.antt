@@ -1,4 +1,4 @@
--- `convex::convex::convex_row` meets its contract: a fold. Assumes nothing.
+-- `convex::convex::convex_row` meets its contract: a fold.
 use Prim.Native.Nat.{_≤_, _-_}
 use native.Mathlib.Omega.{arith}
 use mathlib.Core.Path.{_≡_, refl}

@@ -1,4 +1,4 @@
--- `convex::convex::crosses_edge` meets its contract. Assumes nothing.
+-- `convex::convex::crosses_edge` meets its contract.
 use borrow.Author.Needs.{needs}
 use Rattle.convex.proofs.convex.crosses_edge.Statement.{statement}
 use Rattle.convex.proofs.convex.crosses_edge.Tie as tie

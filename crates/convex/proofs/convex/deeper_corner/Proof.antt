@@ -1,4 +1,4 @@
--- `convex::convex::deeper_corner` meets its contract. Assumes nothing.
+-- `convex::convex::deeper_corner` meets its contract.
 use borrow.Author.Needs.{needs}
 use Rattle.convex.proofs.convex.deeper_corner.Statement.{statement}
 use Rattle.convex.proofs.convex.deeper_corner.Tie as tie

@@ -1,4 +1,4 @@
--- `convex::convex::deeper_point` meets its contract. Assumes nothing.
+-- `convex::convex::deeper_point` meets its contract.
 use borrow.Author.Needs.{needs}
 use Rattle.convex.proofs.convex.deeper_point.Statement.{statement}
 use Rattle.convex.proofs.convex.deeper_point.Tie as tie

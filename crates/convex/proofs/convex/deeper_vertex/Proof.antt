@@ -1,4 +1,4 @@
--- `convex::convex::deeper_vertex` meets its contract: what lies outside is not below 0. Assumes nothing.
+-- `convex::convex::deeper_vertex` meets its contract: what lies outside is not below 0.
 use borrow.Author.Needs.{needs}
 use borrow.Author.Tests.{not-true}
 use mathlib.Core.Path.{sym, _∙_}

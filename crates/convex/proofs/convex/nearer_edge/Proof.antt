@@ -1,4 +1,4 @@
--- `convex::convex::nearer_edge` meets its contract. Assumes nothing.
+-- `convex::convex::nearer_edge` meets its contract.
 use borrow.Author.Needs.{needs}
 use Rattle.convex.proofs.convex.nearer_edge.Statement.{statement}
 use Rattle.convex.proofs.convex.nearer_edge.Tie as tie

@@ -1,11 +1,11 @@
--- `convex::convex::orient` meets its contract. Assumes nothing.
+-- `convex::convex::orient` meets its contract.
 use mathlib.Core.Path.{refl}
-use Rattle.convex.specs.Convex.{orientation}
+use Rattle.convex.specs.Convex.{orient}
 use Rattle.convex.proofs.convex.orient.Statement.{statement}
 use Rattle.convex.proofs.convex.orient.Tie as tie
 
 returns : tie.Need-returns
-unfolding orientation
+unfolding orient
 returns c = refl
 
 pub orient-spec : {M : Type 1} → statement M

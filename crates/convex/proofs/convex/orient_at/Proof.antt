@@ -1,4 +1,4 @@
--- `convex::convex::orient_at` meets its contract. Assumes nothing.
+-- `convex::convex::orient_at` meets its contract.
 use borrow.Author.Needs.{needs}
 use Rattle.convex.proofs.convex.orient_at.Statement.{statement}
 use Rattle.convex.proofs.convex.orient_at.Tie as tie

@@ -1,5 +1,5 @@
 -- `convex::convex::point_in_convex` meets its contract: each flag says whether a cross product of an edge below k
--- lies on its side, and not both are set. Assumes nothing.
+-- lies on its side, and not both are set.
 use Prim.Native.Nat.{_≤_, _-_}
 use native.Mathlib.Omega.{arith}
 use mathlib.Core.Bool.{false, _&&_}
@@ -8,7 +8,7 @@ use lib.Ieee.{neg}
 use borrow.Author.Needs.{needs}
 use Rattle.arith.specs.F64.{_≺_, e-9}
 use Rattle.profile.specs.Vertices.{vertexAt, endAt, any}
-use Rattle.convex.specs.Convex.{orientation, oneSided}
+use Rattle.convex.specs.Convex.{orient, pointInConvex}
 use Rattle.convex.proofs.Flags.{flag-more, both-set, not-both-set}
 use Rattle.convex.proofs.convex.point_in_convex.Statement.{statement}
 use Rattle.convex.proofs.convex.point_in_convex.Tie as tie
@@ -16,8 +16,8 @@ use Rattle.convex.proofs.convex.point_in_convex.Tie as tie
 abbrev Inv-loop : tie.InvT-loop
 Inv-loop c p n left₀ right₀ k₀ left right k =
     (k ≤ n)
-    × (left ≡ any (λ j. e-9 ≺ orientation (vertexAt c j) (endAt c j) p) k)
-    × (right ≡ any (λ j. orientation (vertexAt c j) (endAt c j) p ≺ neg e-9) k)
+    × (left ≡ any (λ j. e-9 ≺ orient (vertexAt c j) (endAt c j) p) k)
+    × (right ≡ any (λ j. orient (vertexAt c j) (endAt c j) p ≺ neg e-9) k)
     × ((left && right) ≡ false)
 
 abbrev μ-loop : tie.MeasureT-loop
@@ -31,7 +31,7 @@ orient-at-requires : tie.Need-orient-at-requires Inv-loop μ-loop
 orient-at-requires c κs = search needs
 
 returns : tie.Need-returns Inv-loop μ-loop
-unfolding oneSided
+unfolding pointInConvex
 returns c =
     let before = c .before .before .before .loop .inv in
     both-set _ _ _ _
@@ -56,7 +56,7 @@ loop-again c =
     )
 
 returns-2 : tie.Need-returns-2 Inv-loop μ-loop
-unfolding oneSided
+unfolding pointInConvex
 returns-2 c =
     let inv = c .before .loop .inv in
     not-both-set _ _ _ _ (inv .1) (inv .2) (omega arith) (inv .3)

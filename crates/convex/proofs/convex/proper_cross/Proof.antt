@@ -1,5 +1,5 @@
--- `convex::convex::proper_cross` meets its contract. Assumes nothing.
-use Rattle.convex.specs.Convex.{properCrossing}
+-- `convex::convex::proper_cross` meets its contract.
+use Rattle.convex.specs.Convex.{properCross}
 use borrow.Author.Needs.{needs}
 use Rattle.convex.proofs.convex.proper_cross.Statement.{statement}
 use Rattle.convex.proofs.convex.proper_cross.Tie as tie
@@ -17,7 +17,7 @@ orient-requires-4 : tie.Need-orient-requires-4
 orient-requires-4 c κs = search needs
 
 returns : tie.Need-returns
-unfolding properCrossing
+unfolding properCross
 returns c =
     rw (
       ← c .before .before .before .before .orient .ensures,
@@ -28,7 +28,7 @@ returns c =
     )
 
 returns-2 : tie.Need-returns-2
-unfolding properCrossing
+unfolding properCross
 returns-2 c = rw (← c .before .before .orient .ensures, ← c .before .orient2 .ensures, c .if1 .left)
 
 pub proper-cross-spec : {M : Type 1} → statement M

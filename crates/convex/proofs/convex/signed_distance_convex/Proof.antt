@@ -1,6 +1,6 @@
--- `convex::convex::signed_distance_convex` meets its contract. Assumes nothing.
+-- `convex::convex::signed_distance_convex` meets its contract.
 use borrow.Author.Needs.{needs}
-use Rattle.convex.specs.Convex.{convexPoint}
+use Rattle.convex.specs.Convex.{signedDistanceConvex}
 use Rattle.convex.proofs.convex.signed_distance_convex.Statement.{statement}
 use Rattle.convex.proofs.convex.signed_distance_convex.Tie as tie
 
@@ -11,11 +11,11 @@ is-finite-requires : tie.Need-is-finite-requires
 is-finite-requires c κs = search needs
 
 returns : tie.Need-returns
-unfolding convexPoint
+unfolding signedDistanceConvex
 returns c = rw (← c .before .before .convex-near .ensures, ← c .before .is-finite .ensures, c .if1 .taken)
 
 returns-2 : tie.Need-returns-2
-unfolding convexPoint
+unfolding signedDistanceConvex
 returns-2 c =
     rw (
       ← c .before .before .before .convex-near .ensures,
@@ -28,7 +28,7 @@ point-in-convex-requires : tie.Need-point-in-convex-requires
 point-in-convex-requires c κs = search needs
 
 returns-3 : tie.Need-returns-3
-unfolding convexPoint
+unfolding signedDistanceConvex
 returns-3 c =
     rw (
       ← c .before .before .before .before .before .convex-near .ensures,
@@ -40,7 +40,7 @@ returns-3 c =
     )
 
 returns-4 : tie.Need-returns-4
-unfolding convexPoint
+unfolding signedDistanceConvex
 returns-4 c =
     rw (
       ← c .before .before .before .before .before .convex-near .ensures,

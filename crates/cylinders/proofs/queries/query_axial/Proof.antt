@@ -1,4 +1,4 @@
--- `cylinders::queries::query_axial` meets its contract. Assumes nothing.
+-- `cylinders::queries::query_axial` meets its contract.
 use borrow.Author.Needs.{needs}
 use Rattle.cylinders.proofs.queries.query_axial.Statement.{statement}
 use Rattle.cylinders.proofs.queries.query_axial.Tie as tie

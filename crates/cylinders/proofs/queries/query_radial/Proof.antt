@@ -1,4 +1,4 @@
--- `cylinders::queries::query_radial` meets its contract. Assumes nothing.
+-- `cylinders::queries::query_radial` meets its contract.
 use borrow.Author.Needs.{needs}
 use Rattle.cylinders.proofs.queries.query_radial.Statement.{statement}
 use Rattle.cylinders.proofs.queries.query_radial.Tie as tie

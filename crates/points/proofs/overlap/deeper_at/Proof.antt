@@ -1,4 +1,4 @@
--- `points::overlap::deeper_at` meets its contract: what lies outside is not below 0. Assumes nothing.
+-- `points::overlap::deeper_at` meets its contract: what lies outside is not below 0.
 use borrow.Author.Needs.{needs}
 use mathlib.Core.Path.{sym, _∙_}
 use borrow.Author.Tests.{not-true}

@@ -1,22 +1,22 @@
--- `points::overlap::result_of` meets its contract. Assumes nothing.
-use Rattle.points.specs.Overlap.{result}
+-- `points::overlap::result_of` meets its contract.
+use Rattle.points.specs.Overlap.{resultOf}
 use Rattle.points.proofs.overlap.result_of.Statement.{statement}
 use Rattle.points.proofs.overlap.result_of.Tie as tie
 
 returns : tie.Need-returns
-unfolding result
+unfolding resultOf
 returns c = rw (c .if1 .taken)
 
 returns-2 : tie.Need-returns-2
-unfolding result
+unfolding resultOf
 returns-2 c = rw (c .before .if1 .left, c .if2 .taken)
 
 returns-3 : tie.Need-returns-3
-unfolding result
+unfolding resultOf
 returns-3 c = rw (c .before .before .if1 .left, c .before .if2 .left, c .if3 .taken)
 
 returns-4 : tie.Need-returns-4
-unfolding result
+unfolding resultOf
 returns-4 c = rw (c .before .before .if1 .left, c .before .if2 .left, c .if3 .left)
 
 pub result-of-spec : {M : Type 1} → statement M

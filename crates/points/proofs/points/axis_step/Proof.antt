@@ -1,4 +1,4 @@
--- `points::points::axis_step` meets its contract. Assumes nothing.
+-- `points::points::axis_step` meets its contract.
 use borrow.Author.Needs.{needs}
 use Rattle.points.proofs.points.axis_step.Statement.{statement}
 use Rattle.points.proofs.points.axis_step.Tie as tie

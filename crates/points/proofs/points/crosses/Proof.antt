@@ -1,22 +1,22 @@
--- `points::points::crosses` meets its contract. Assumes nothing.
-use Rattle.points.specs.Points.{crossing}
+-- `points::points::crosses` meets its contract.
+use Rattle.points.specs.Points.{crosses}
 use borrow.Author.Needs.{needs}
 use Rattle.points.proofs.points.crosses.Statement.{statement}
 use Rattle.points.proofs.points.crosses.Tie as tie
 
 returns : tie.Need-returns
-unfolding crossing
+unfolding crosses
 returns c = rw (c .if1 .taken)
 
 abs-requires : tie.Need-abs-requires
 abs-requires c κs = search needs
 
 returns-2 : tie.Need-returns-2
-unfolding crossing
+unfolding crosses
 returns-2 c = rw (c .before .before .if1 .left, ← c .before .abs .ensures, c .if2 .taken)
 
 returns-3 : tie.Need-returns-3
-unfolding crossing
+unfolding crosses
 returns-3 c =
     rw (
       c .before .before .before .before .before .before .if1 .left,

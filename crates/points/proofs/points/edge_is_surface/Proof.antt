@@ -1,4 +1,4 @@
--- `points::points::edge_is_surface` meets its contract. Assumes nothing.
+-- `points::points::edge_is_surface` meets its contract.
 use borrow.Author.Needs.{needs}
 use Rattle.points.proofs.points.edge_is_surface.Statement.{statement}
 use Rattle.points.proofs.points.edge_is_surface.Tie as tie

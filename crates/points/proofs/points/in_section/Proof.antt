@@ -1,4 +1,4 @@
--- `points::points::in_section` meets its contract. Assumes nothing.
+-- `points::points::in_section` meets its contract.
 use Rattle.points.specs.Points.{inSection}
 use borrow.Author.Needs.{needs}
 use Rattle.points.proofs.points.in_section.Statement.{statement}

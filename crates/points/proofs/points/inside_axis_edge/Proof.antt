@@ -1,4 +1,4 @@
--- `points::points::inside_axis_edge` meets its contract. Assumes nothing.
+-- `points::points::inside_axis_edge` meets its contract.
 use Rattle.points.specs.Points.{insideAxisEdge}
 use borrow.Author.Needs.{needs}
 use Rattle.points.proofs.points.inside_axis_edge.Statement.{statement}

@@ -1,4 +1,4 @@
--- `points::points::meridian` meets its contract. Assumes nothing.
+-- `points::points::meridian` meets its contract.
 use borrow.Author.Needs.{needs}
 use Rattle.points.proofs.points.meridian.Statement.{statement}
 use Rattle.points.proofs.points.meridian.Tie as tie

@@ -1,4 +1,4 @@
--- `points::points::odd_step` meets its contract. Assumes nothing.
+-- `points::points::odd_step` meets its contract.
 use borrow.Author.Needs.{needs}
 use Rattle.points.proofs.points.odd_step.Statement.{statement}
 use Rattle.points.proofs.points.odd_step.Tie as tie

@@ -1,4 +1,4 @@
--- `points::points::on_axis` meets its contract: a search, nothing found so far. Assumes nothing.
+-- `points::points::on_axis` meets its contract: a search, nothing found so far.
 use Prim.Native.Nat.{_≤_, _-_}
 use native.Mathlib.Omega.{arith}
 use mathlib.Core.Bool.{false}

@@ -1,11 +1,11 @@
--- `points::points::point_inside` meets its contract: a fold. Assumes nothing.
+-- `points::points::point_inside` meets its contract: a fold.
 use Prim.Native.Nat.{_≤_, _-_}
 use native.Mathlib.Omega.{arith}
 use mathlib.Core.Bool.{false}
 use mathlib.Core.Path.{_≡_, refl}
 use lib.Ieee.{unlike}
 use Rattle.profile.specs.Vertices.{vertexAt, endAt, upto}
-use Rattle.points.specs.Points.{crossing, oddCrossings}
+use Rattle.points.specs.Points.{crosses, pointInside}
 use Rattle.profile.proofs.Fold.{upto-more, upto-end}
 use borrow.Author.Needs.{needs}
 use Rattle.points.proofs.points.point_inside.Statement.{statement}
@@ -13,7 +13,7 @@ use Rattle.points.proofs.points.point_inside.Tie as tie
 
 abbrev Inv-loop : tie.InvT-loop
 Inv-loop s p n odd₀ k₀ odd k =
-    (k ≤ n) × (odd ≡ upto (λ j o. unlike o (crossing p (vertexAt s j) (endAt s j))) false k)
+    (k ≤ n) × (odd ≡ upto (λ j o. unlike o (crosses p (vertexAt s j) (endAt s j))) false k)
 
 abbrev μ-loop : tie.MeasureT-loop
 μ-loop s p n odd₀ k₀ odd k = n - k
@@ -35,7 +35,7 @@ loop-again : tie.Need-loop-again Inv-loop μ-loop
 loop-again c = (search needs, upto-more _ _ _ (c .before .before .loop .inv .1) (c .odd-step .ensures))
 
 returns : tie.Need-returns Inv-loop μ-loop
-unfolding oddCrossings
+unfolding pointInside
 returns c = upto-end _ _ _ (c .before .loop .inv .1) _ (omega arith)
 
 pub point-inside-spec : {M : Type 1} → statement M

@@ -1,4 +1,4 @@
--- `points::points::signed_distance_2d` meets its contract. Assumes nothing.
+-- `points::points::signed_distance_2d` meets its contract.
 use Rattle.points.specs.Points.{pointDistance}
 use borrow.Author.Needs.{needs}
 use Rattle.points.proofs.points.signed_distance_2d.Statement.{statement}

@@ -1,4 +1,4 @@
--- `points::points::sphere_distance` meets its contract. Assumes nothing.
+-- `points::points::sphere_distance` meets its contract.
 use Rattle.points.specs.Points.{sphereDistance}
 use borrow.Author.Needs.{needs}
 use Rattle.points.proofs.points.sphere_distance.Statement.{statement}

@@ -1,4 +1,4 @@
--- `points::points::surface_edge` meets its contract. Assumes nothing.
+-- `points::points::surface_edge` meets its contract.
 use borrow.Author.Needs.{needs}
 use Rattle.points.proofs.points.surface_edge.Statement.{statement}
 use Rattle.points.proofs.points.surface_edge.Tie as tie

@@ -1,4 +1,4 @@
--- `points::points::surface_step` meets its contract. Assumes nothing.
+-- `points::points::surface_step` meets its contract.
 use Rattle.points.specs.Points.{surfaceStep}
 use borrow.Author.Needs.{needs}
 use Rattle.points.proofs.points.surface_step.Statement.{statement}

@@ -1,4 +1,4 @@
--- `profile::refusal::any_beyond_limit` meets its contract: what is not yet tried decides for the whole list. Assumes nothing.
+-- `profile::refusal::any_beyond_limit` meets its contract: what is not yet tried decides for the whole list.
 use Prim.Native.Nat.{_≤_, _-_}
 use mathlib.Core.Path.{_≡_}
 use lib.ListN.{length, drop}

@@ -1,4 +1,4 @@
--- `profile::vertices::end_at` meets its contract. Assumes nothing.
+-- `profile::vertices::end_at` meets its contract.
 use borrow.Author.Needs.{needs}
 use Rattle.profile.proofs.vertices.end_at.Statement.{statement}
 use Rattle.profile.proofs.vertices.end_at.Tie as tie

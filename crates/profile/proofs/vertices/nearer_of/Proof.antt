@@ -1,4 +1,4 @@
--- `profile::vertices::nearer_of` meets its contract. Assumes nothing.
+-- `profile::vertices::nearer_of` meets its contract.
 use Rattle.profile.proofs.vertices.nearer_of.Statement.{statement}
 use Rattle.profile.proofs.vertices.nearer_of.Tie as tie
 

@@ -1,4 +1,4 @@
--- `profile::vertices::next_of` meets its contract. Assumes nothing.
+-- `profile::vertices::next_of` meets its contract.
 use borrow.Author.Tests.{eq-eqb, ne-eqb}
 use borrow.Author.Needs.{needs}
 use Rattle.profile.proofs.vertices.next_of.Statement.{statement}

@@ -1,4 +1,4 @@
--- `records::copying::numbers_of` meets its contract. Assumes nothing.
+-- `records::copying::numbers_of` meets its contract.
 use borrow.Author.Needs.{needs}
 use Rattle.records.proofs.copying.numbers_of.Statement.{statement}
 use Rattle.records.proofs.copying.numbers_of.Tie as tie

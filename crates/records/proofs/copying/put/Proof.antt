@@ -1,4 +1,4 @@
--- `records::copying::put` meets its contract. Assumes nothing.
+-- `records::copying::put` meets its contract.
 use borrow.Author.Needs.{needs}
 use borrow.Author.Tests.{le-ltb, lt-ltb}
 use Rattle.records.specs.Steps.{stored, next}

@@ -1,4 +1,4 @@
--- `records::queries::aabb_polygon_distance_of` meets its contract: the walk of `Layer`, at boxes. Assumes nothing.
+-- `records::queries::aabb_polygon_distance_of` meets its contract: the walk of `Layer`, at boxes.
 use denote.Struct.Laws as struct-laws
 use denote.Enum.Laws as enum-laws
 use Rattle.section.specs.declared.shapes.Answer.the-variants.{Refused}

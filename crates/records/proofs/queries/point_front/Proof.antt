@@ -1,4 +1,4 @@
--- `records::queries::point_front` meets its contract: the core's own promise, on the front. Assumes nothing.
+-- `records::queries::point_front` meets its contract: the core's own promise, on the front.
 use native.Mathlib.Omega.{arith}
 use mathlib.Core.Path.{refl, sym}
 use lib.Seq.{length-take-le}

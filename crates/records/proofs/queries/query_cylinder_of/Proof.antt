@@ -1,4 +1,4 @@
--- `records::queries::query_cylinder_of` meets its contract: the walk of `Layer`, at cylinders. Assumes nothing.
+-- `records::queries::query_cylinder_of` meets its contract: the walk of `Layer`, at cylinders.
 use denote.Struct.Laws as struct-laws
 use denote.Enum.Laws as enum-laws
 use Rattle.cylinders.specs.declared.shapes.CountedAnswer.the-variants.{Refused}

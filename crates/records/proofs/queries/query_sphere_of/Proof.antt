@@ -1,4 +1,4 @@
--- `records::queries::query_sphere_of` meets its contract: the walk of `Layer`, at spheres. Assumes nothing.
+-- `records::queries::query_sphere_of` meets its contract: the walk of `Layer`, at spheres.
 use denote.Struct.Laws as struct-laws
 use denote.Enum.Laws as enum-laws
 use Rattle.section.specs.declared.shapes.Answer.the-variants.{Refused}

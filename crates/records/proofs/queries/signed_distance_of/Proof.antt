@@ -1,4 +1,4 @@
--- `records::queries::signed_distance_of` meets its contract: the walk of `Layer`, at points. Assumes nothing.
+-- `records::queries::signed_distance_of` meets its contract: the walk of `Layer`, at points.
 use denote.Struct.Laws as struct-laws
 use denote.Enum.Laws as enum-laws
 use Rattle.section.specs.declared.shapes.Answer.the-variants.{Refused}

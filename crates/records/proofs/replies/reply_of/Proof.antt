@@ -1,4 +1,4 @@
--- `records::replies::reply_of` meets its contract, by the answer's case. Assumes nothing.
+-- `records::replies::reply_of` meets its contract, by the answer's case.
 use borrow.Author.Needs.{needs}
 use Rattle.records.proofs.replies.reply_of.Statement.{statement}
 use Rattle.records.proofs.replies.reply_of.Tie as tie

@@ -1,4 +1,4 @@
--- `roots::guess::guess` meets its contract. Assumes nothing.
+-- `roots::guess::guess` meets its contract.
 use Prim.Native.Nat.{_-_, _/_}
 use native.Mathlib.Omega.{arith}
 use borrow.Author.Needs.{needs}

@@ -1,4 +1,4 @@
--- `roots::guess::guessed` meets its contract. Assumes nothing.
+-- `roots::guess::guessed` meets its contract.
 use Rattle.roots.proofs.Pattern.Special.{greater}
 use borrow.Author.Needs.{needs}
 use Rattle.roots.proofs.guess.guessed.Statement.{statement}

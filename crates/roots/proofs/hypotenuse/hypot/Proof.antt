@@ -1,4 +1,4 @@
--- `roots::hypotenuse::hypot` meets its contract. Assumes nothing.
+-- `roots::hypotenuse::hypot` meets its contract.
 use mathlib.Core.Path.{_≡_, sym, subst}
 use mathlib.Core.Bool.{true}
 use native.Mathlib.Nat.{le-refl}

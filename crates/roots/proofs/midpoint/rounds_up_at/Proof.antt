@@ -1,4 +1,4 @@
--- `roots::midpoint::rounds_up_at` meets its contract: the limbs are compared from the higher one on. Assumes nothing.
+-- `roots::midpoint::rounds_up_at` meets its contract: the limbs are compared from the higher one on.
 use borrow.Author.Needs.{needs}
 use Rattle.roots.proofs.midpoint.rounds_up_at.Statement.{statement}
 use Rattle.roots.proofs.midpoint.rounds_up_at.Tie as tie

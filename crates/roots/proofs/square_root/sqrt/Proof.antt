@@ -1,4 +1,4 @@
--- `roots::square_root::sqrt` meets its contract. Assumes nothing.
+-- `roots::square_root::sqrt` meets its contract.
 use mathlib.Core.Path.{_≡_, sym, subst}
 use mathlib.Core.Bool.{true}
 use Prim.Native.Nat.{ℕ, _<_, _≤_}

@@ -1,4 +1,4 @@
--- `segments::clip::clip_segment` meets its contract. Assumes nothing.
+-- `segments::clip::clip_segment` meets its contract.
 use Rattle.segments.specs.Clip.{clip}
 use borrow.Author.Needs.{needs}
 use Rattle.segments.proofs.clip.clip_segment.Statement.{statement}

@@ -1,4 +1,4 @@
--- `segments::clip::clip_side` meets its contract. Assumes nothing.
+-- `segments::clip::clip_side` meets its contract.
 use Rattle.segments.specs.Clip.{clipSide}
 use borrow.Author.Needs.{needs}
 use Rattle.segments.proofs.clip.clip_side.Statement.{statement}

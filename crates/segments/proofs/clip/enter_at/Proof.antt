@@ -1,4 +1,4 @@
--- `segments::clip::enter_at` meets its contract. Assumes nothing.
+-- `segments::clip::enter_at` meets its contract.
 use borrow.Author.Needs.{needs}
 use Rattle.segments.proofs.clip.enter_at.Statement.{statement}
 use Rattle.segments.proofs.clip.enter_at.Tie as tie

@@ -1,4 +1,4 @@
--- `segments::clip::leave_at` meets its contract. Assumes nothing.
+-- `segments::clip::leave_at` meets its contract.
 use borrow.Author.Needs.{needs}
 use Rattle.segments.proofs.clip.leave_at.Statement.{statement}
 use Rattle.segments.proofs.clip.leave_at.Tie as tie

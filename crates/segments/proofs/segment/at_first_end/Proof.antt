@@ -1,4 +1,4 @@
--- `segments::segment::at_first_end` meets its contract. Assumes nothing.
+-- `segments::segment::at_first_end` meets its contract.
 use borrow.Author.Needs.{needs}
 use Rattle.segments.proofs.segment.at_first_end.Statement.{statement}
 use Rattle.segments.proofs.segment.at_first_end.Tie as tie

@@ -1,4 +1,4 @@
--- `segments::segment::closer_between` meets its contract: where a leg reaches the best, the hypot is no less. Assumes nothing.
+-- `segments::segment::closer_between` meets its contract: where a leg reaches the best, the hypot is no less.
 use borrow.Author.Needs.{needs}
 use lib.Ieee.{binary64}
 use lib.Ieee.Fits.{sub-fits}

@@ -1,4 +1,4 @@
--- `segments::segment::closest_places` meets its contract. Assumes nothing.
+-- `segments::segment::closest_places` meets its contract.
 use Rattle.segments.specs.Segments.{closestPlaces}
 use borrow.Author.Needs.{needs}
 use Rattle.segments.proofs.segment.closest_places.Statement.{statement}

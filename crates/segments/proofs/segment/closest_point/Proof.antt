@@ -1,4 +1,4 @@
--- `segments::segment::closest_point` meets its contract. Assumes nothing.
+-- `segments::segment::closest_point` meets its contract.
 use Rattle.segments.specs.Segments.{closest}
 use borrow.Author.Needs.{needs}
 use Rattle.segments.proofs.segment.closest_point.Statement.{statement}

@@ -1,4 +1,4 @@
--- `segments::segment::point_segment` meets its contract. Assumes nothing.
+-- `segments::segment::point_segment` meets its contract.
 use Rattle.segments.specs.Segments.{closest}
 use borrow.Author.Needs.{needs}
 use Rattle.segments.proofs.segment.point_segment.Statement.{statement}

@@ -1,4 +1,4 @@
--- `segments::segment::seg_seg_point_on_first` meets its contract. Assumes nothing.
+-- `segments::segment::seg_seg_point_on_first` meets its contract.
 use Rattle.segments.specs.Segments.{segments}
 use borrow.Author.Needs.{needs}
 use Rattle.segments.proofs.segment.seg_seg_point_on_first.Statement.{statement}

@@ -1,4 +1,4 @@
--- `segments::segment::start_place` meets its contract. Assumes nothing.
+-- `segments::segment::start_place` meets its contract.
 use borrow.Author.Needs.{needs}
 use Rattle.segments.proofs.segment.start_place.Statement.{statement}
 use Rattle.segments.proofs.segment.start_place.Tie as tie

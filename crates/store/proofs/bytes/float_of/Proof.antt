@@ -1,4 +1,4 @@
--- `store::bytes::float_of` meets its contract. Assumes nothing.
+-- `store::bytes::float_of` meets its contract.
 use mathlib.Core.Path.{sym, _∙_}
 use Rattle.roots.proofs.Pattern.Special.{above-inf}
 use Rattle.store.proofs.Patterns.{not-nan, zero-by-zero}

@@ -1,4 +1,4 @@
--- `store::bytes::kind_of` meets its contract. Assumes nothing.
+-- `store::bytes::kind_of` meets its contract.
 use Rattle.store.specs.Records.{kind}
 use borrow.Author.Needs.{needs}
 use Rattle.store.proofs.bytes.kind_of.Statement.{statement}

@@ -1,4 +1,4 @@
--- `store::bytes::next_of` meets its contract. Assumes nothing.
+-- `store::bytes::next_of` meets its contract.
 use Rattle.store.specs.Records.{next}
 use borrow.Author.Needs.{needs}
 use Rattle.store.proofs.bytes.next_of.Statement.{statement}

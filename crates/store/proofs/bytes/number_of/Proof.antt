@@ -1,4 +1,4 @@
--- `store::bytes::number_of` meets its contract. Assumes nothing.
+-- `store::bytes::number_of` meets its contract.
 use mathlib.Core.Path.{ap, _∙_}
 use lib.Ieee.{binary64, ofBits}
 use Rattle.store.specs.Records.{number}

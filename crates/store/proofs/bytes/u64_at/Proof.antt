@@ -1,4 +1,4 @@
--- `store::bytes::u64_at` meets its contract. Assumes nothing.
+-- `store::bytes::u64_at` meets its contract.
 use Rattle.store.specs.Bytes.{littleEndian}
 use borrow.Author.Needs.{needs}
 use Rattle.store.proofs.bytes.u64_at.Statement.{statement}

@@ -1,4 +1,4 @@
--- `store::chain::is_bad` meets its contract. Assumes nothing.
+-- `store::chain::is_bad` meets its contract.
 use borrow.Author.Tests.{le-leb, lt-leb}
 use borrow.Author.Needs.{needs}
 use Rattle.store.proofs.chain.is_bad.Statement.{statement}

@@ -1,4 +1,4 @@
--- `store::kinds::kinds_answer` meets its contract: what is left to look at gives the answer. Assumes nothing.
+-- `store::kinds::kinds_answer` meets its contract: what is left to look at gives the answer.
 use Prim.Native.Nat.{_-_, _≤_}
 use mathlib.Core.Path.{_≡_, refl, sym, _∙_}
 use lib.ListN.{length, drop}

@@ -1,4 +1,4 @@
--- `store::kinds::right_kind` meets its contract. Assumes nothing.
+-- `store::kinds::right_kind` meets its contract.
 use borrow.Author.Tests.{eq-eqb, ne-eqb}
 use Rattle.store.specs.Kinds.{rightKind}
 use borrow.Author.Needs.{needs}

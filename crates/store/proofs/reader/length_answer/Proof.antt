@@ -1,4 +1,4 @@
--- `store::reader::length_answer` meets its contract. Assumes nothing.
+-- `store::reader::length_answer` meets its contract.
 use Rattle.store.specs.Store.{lengthAnswer}
 use borrow.Author.Needs.{needs}
 use Rattle.store.proofs.reader.length_answer.Statement.{statement}

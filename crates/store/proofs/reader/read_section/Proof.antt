@@ -1,4 +1,4 @@
--- `store::reader::read_section` meets its contract. Assumes nothing.
+-- `store::reader::read_section` meets its contract.
 use mathlib.Core.Path.{sym, _∙_}
 use Rattle.store.proofs.Filling.{fills-sooner, fills-later}
 use borrow.Author.Needs.{needs}

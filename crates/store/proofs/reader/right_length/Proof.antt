@@ -1,4 +1,4 @@
--- `store::reader::right_length` meets its contract. Assumes nothing.
+-- `store::reader::right_length` meets its contract.
 use borrow.Author.Tests.{eq-eqb, ne-eqb, le-leb, lt-leb}
 use Rattle.store.specs.Records.{rightLength}
 use Rattle.store.proofs.reader.right_length.Statement.{statement}

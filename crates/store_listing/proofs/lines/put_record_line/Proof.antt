@@ -1,4 +1,4 @@
--- `store_listing::lines::put_record_line` meets its contract. Assumes nothing.
+-- `store_listing::lines::put_record_line` meets its contract.
 use mathlib.Core.Bool.{or-true}
 use borrow.Author.Tests.{eq-eqb, ne-eqb}
 use Rattle.store_listing.proofs.Writing.{nothing-written}

@@ -1,4 +1,4 @@
--- `store_listing::listing::list_input` meets its contract. Assumes nothing.
+-- `store_listing::listing::list_input` meets its contract.
 use native.Mathlib.Omega.{arith}
 use lib.ListN.{length-take}
 use borrow.Author.Tests.{le-leb, lt-leb}

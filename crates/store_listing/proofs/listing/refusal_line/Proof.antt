@@ -1,4 +1,4 @@
--- `store_listing::listing::refusal_line` meets its contract. Assumes nothing.
+-- `store_listing::listing::refusal_line` meets its contract.
 use native.Mathlib.Omega.{arith}
 use Rattle.store_listing.proofs.Listed.{refusal-short}
 use Rattle.store_listing.proofs.Writing.{front-written}

@@ -1,4 +1,4 @@
--- `store_listing::text::put_hex` meets its contract: all digits but the last, then the last. Assumes nothing.
+-- `store_listing::text::put_hex` meets its contract: all digits but the last, then the last.
 use native.Mathlib.Omega.{arith}
 use Rattle.store_listing.proofs.Digits.{hex-step, hex-room, hex-none}
 use Rattle.store_listing.proofs.Writing.{then}

@@ -1,4 +1,4 @@
--- `store_listing::text::bits_of` meets its contract. Assumes nothing.
+-- `store_listing::text::bits_of` meets its contract.
 use mathlib.Core.Path.{sym}
 use Rattle.roots.proofs.Pattern.Special.{like-itself}
 use Rattle.store_listing.proofs.Digits.{bits-zero, bits-nan}

@@ -1,4 +1,4 @@
--- `store_listing::text::digit` meets its contract. Assumes nothing.
+-- `store_listing::text::digit` meets its contract.
 use borrow.Author.Tests.{lt-ltb, le-ltb}
 use borrow.Author.Needs.{needs}
 use Rattle.store_listing.proofs.text.digit.Statement.{statement}

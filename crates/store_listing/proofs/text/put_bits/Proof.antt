@@ -1,4 +1,4 @@
--- `store_listing::text::put_bits` meets its contract. Assumes nothing.
+-- `store_listing::text::put_bits` meets its contract.
 use Rattle.store_listing.specs.Text.{bits}
 use borrow.Author.Needs.{needs}
 use Rattle.store_listing.proofs.text.put_bits.Statement.{statement}

@@ -1,4 +1,4 @@
--- `walk::pieces::box_of` meets its contract. Assumes nothing.
+-- `walk::pieces::box_of` meets its contract.
 use borrow.Author.Needs.{needs}
 use Rattle.walk.proofs.pieces.box_of.Statement.{statement}
 use Rattle.walk.proofs.pieces.box_of.Tie as tie

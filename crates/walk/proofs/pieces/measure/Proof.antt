@@ -1,5 +1,5 @@
--- `walk::pieces::measure` meets its contract. Assumes nothing.
-use Rattle.walk.specs.Pieces.{boxOf, variation}
+-- `walk::pieces::measure` meets its contract.
+use Rattle.walk.specs.Pieces.{pieceBox, variation}
 use borrow.Author.Needs.{needs}
 use Rattle.walk.proofs.pieces.measure.Statement.{statement}
 use Rattle.walk.proofs.pieces.measure.Tie as tie
@@ -17,7 +17,7 @@ variation-of-requires : tie.Need-variation-of-requires
 variation-of-requires c κs = search needs
 
 returns : tie.Need-returns
-unfolding boxOf variation
+unfolding pieceBox variation
 returns c =
     rw (
       c .before .box-distance .ensures,

@@ -1,4 +1,4 @@
--- `walk::pieces::spans_of` meets its contract. Assumes nothing.
+-- `walk::pieces::spans_of` meets its contract.
 use Rattle.walk.specs.Pieces.{widest, narrowest}
 use borrow.Author.Needs.{needs}
 use Rattle.walk.proofs.pieces.spans_of.Statement.{statement}

@@ -1,4 +1,4 @@
--- `walk::pieces::variation_of` meets its contract. Assumes nothing.
+-- `walk::pieces::variation_of` meets its contract.
 use borrow.Author.Needs.{needs}
 use Rattle.walk.proofs.pieces.variation_of.Statement.{statement}
 use Rattle.walk.proofs.pieces.variation_of.Tie as tie

@@ -1,6 +1,6 @@
--- `walk::samples::sample_at` meets its contract. Assumes nothing.
+-- `walk::samples::sample_at` meets its contract.
 use Rattle.profile.specs.Vertices.{upto}
-use Rattle.walk.specs.Walk.{sampleAt}
+use Rattle.walk.specs.Walk.{sampleVertex}
 use borrow.Author.Needs.{needs}
 use Rattle.walk.proofs.samples.sample_at.Statement.{statement}
 use Rattle.walk.proofs.samples.sample_at.Tie as tie
@@ -27,7 +27,7 @@ nearer-of-requires-3 : tie.Need-nearer-of-requires-3
 nearer-of-requires-3 c κs = search needs
 
 returns : tie.Need-returns
-unfolding upto sampleAt
+unfolding upto sampleVertex
 returns c =
     rw (
       c .nearer-of3 .ensures,

@@ -1,4 +1,4 @@
--- `walk::samples::sample_z` meets its contract. Assumes nothing.
+-- `walk::samples::sample_z` meets its contract.
 use native.Mathlib.Omega.{arith}
 use Rattle.walk.proofs.Exact.{whole-float}
 use borrow.Author.Needs.{needs}

@@ -1,11 +1,11 @@
--- `walk::samples::sampled` meets its contract: a fold. Assumes nothing.
+-- `walk::samples::sampled` meets its contract: a fold.
 use Prim.Native.Nat.{suc, _≤_, _-_}
 use native.Mathlib.Omega.{arith}
 use mathlib.Core.Path.{_≡_}
 use Rattle.arith.specs.F64.{𝟘, ∞}
 use Rattle.profile.specs.Vertices.{vertex, hit, upto}
 use Rattle.walk.specs.Walk.{sampleZ, sampled}
-use Rattle.walk.specs.Steps.{samplesAt}
+use Rattle.walk.specs.Steps.{sampleAt}
 use Rattle.profile.proofs.Fold.{upto-more, upto-end}
 use borrow.Author.Needs.{needs}
 use Rattle.walk.proofs.samples.sampled.Statement.{statement}
@@ -13,7 +13,7 @@ use Rattle.walk.proofs.samples.sampled.Tie as tie
 
 abbrev Inv-loop : tie.InvT-loop
 Inv-loop s b n best₀ i₀ best i =
-    (i ≤ suc n) × (best ≡ upto (λ i best. samplesAt s b (sampleZ b n i) best) (hit ∞ (vertex (b .zc) 𝟘)) i)
+    (i ≤ suc n) × (best ≡ upto (λ i best. sampleAt s b (sampleZ b n i) best) (hit ∞ (vertex (b .zc) 𝟘)) i)
 
 abbrev μ-loop : tie.MeasureT-loop
 μ-loop s b n best₀ i₀ best i = suc n - i

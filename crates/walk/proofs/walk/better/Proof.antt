@@ -1,4 +1,4 @@
--- `walk::walk::better` meets its contract. Assumes nothing.
+-- `walk::walk::better` meets its contract.
 use borrow.Author.Needs.{needs}
 use Rattle.walk.proofs.walk.better.Statement.{statement}
 use Rattle.walk.proofs.walk.better.Tie as tie

@@ -1,4 +1,4 @@
--- `walk::walk::both_above` meets its contract. Assumes nothing.
+-- `walk::walk::both_above` meets its contract.
 use Rattle.walk.proofs.walk.both_above.Statement.{statement}
 use Rattle.walk.proofs.walk.both_above.Tie as tie
 

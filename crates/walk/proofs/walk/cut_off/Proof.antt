@@ -1,4 +1,4 @@
--- `walk::walk::cut_off` meets its contract. Assumes nothing.
+-- `walk::walk::cut_off` meets its contract.
 use mathlib.Core.Path.{refl}
 use Rattle.walk.proofs.walk.cut_off.Statement.{statement}
 use Rattle.walk.proofs.walk.cut_off.Tie as tie

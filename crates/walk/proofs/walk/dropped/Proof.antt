@@ -1,4 +1,4 @@
--- `walk::walk::dropped` meets its contract. Assumes nothing.
+-- `walk::walk::dropped` meets its contract.
 use mathlib.Core.Path.{refl}
 use Rattle.walk.proofs.walk.dropped.Statement.{statement}
 use Rattle.walk.proofs.walk.dropped.Tie as tie

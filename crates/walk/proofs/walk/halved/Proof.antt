@@ -1,4 +1,4 @@
--- `walk::walk::halved` meets its contract. Assumes nothing.
+-- `walk::walk::halved` meets its contract.
 use borrow.Author.Needs.{needs}
 use Rattle.walk.proofs.walk.halved.Statement.{statement}
 use Rattle.walk.proofs.walk.halved.Tie as tie

@@ -1,4 +1,4 @@
--- `walk::walk::one_box` meets its contract. Assumes nothing.
+-- `walk::walk::one_box` meets its contract.
 use borrow.Author.Needs.{needs}
 use Rattle.walk.proofs.walk.one_box.Statement.{statement}
 use Rattle.walk.proofs.walk.one_box.Tie as tie

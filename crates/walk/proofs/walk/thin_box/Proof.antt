@@ -1,4 +1,4 @@
--- `walk::walk::thin_box` meets its contract. Assumes nothing.
+-- `walk::walk::thin_box` meets its contract.
 use borrow.Author.Needs.{needs}
 use Rattle.walk.proofs.walk.thin_box.Statement.{statement}
 use Rattle.walk.proofs.walk.thin_box.Tie as tie

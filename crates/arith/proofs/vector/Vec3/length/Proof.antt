@@ -1,4 +1,4 @@
--- `arith::Vec3::length` meets its contract: hypot of hypot. Assumes nothing.
+-- `arith::Vec3::length` meets its contract: hypot of hypot.
 use borrow.Author.Needs.{needs}
 use Rattle.arith.proofs.vector.Vec3.length.Statement.{statement}
 use Rattle.arith.proofs.vector.Vec3.length.Tie as tie

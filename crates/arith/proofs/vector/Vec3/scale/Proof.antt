@@ -1,4 +1,4 @@
--- `arith::Vec3::scale` meets its contract, component by component. Assumes nothing.
+-- `arith::Vec3::scale` meets its contract, component by component.
 use mathlib.Core.Path.{refl}
 use Rattle.arith.proofs.vector.Vec3.scale.Statement.{statement}
 use Rattle.arith.proofs.vector.Vec3.scale.Tie as tie

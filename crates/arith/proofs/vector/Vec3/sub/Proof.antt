@@ -1,4 +1,4 @@
--- `arith::Vec3::sub` meets its contract, component by component. Assumes nothing.
+-- `arith::Vec3::sub` meets its contract, component by component.
 use mathlib.Core.Path.{refl}
 use Rattle.arith.proofs.vector.Vec3.sub.Statement.{statement}
 use Rattle.arith.proofs.vector.Vec3.sub.Tie as tie

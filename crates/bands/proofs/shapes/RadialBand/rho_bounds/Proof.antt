@@ -1,4 +1,4 @@
--- `walk::shapes::RadialBand::rho_bounds` meets its contract. Assumes nothing.
+-- `walk::shapes::RadialBand::rho_bounds` meets its contract.
 use borrow.Author.Needs.{needs}
 use Rattle.bands.proofs.shapes.RadialBand.rho_bounds.Statement.{statement}
 use Rattle.bands.proofs.shapes.RadialBand.rho_bounds.Tie as tie

@@ -1,6 +1,6 @@
--- The specification's `UpTo n`, finite and at most 2 ^ n as the floats' own order tests it, bounds the number itself: finite values
+-- The specification's `AtMost n`, finite and at most 2 ^ n as the floats' own order tests it, bounds the number itself: finite values
 -- compare as fractions over one denominator.
--- What is finite and within 01's limit is `UpTo 20`.
+-- What is finite and within 01's limit is `AtMost 20`.
 use Prim.Native.Nat.{ℕ, suc, _+_, _*_, _^_, _≤_, _<_}
 use mathlib.Core.Bool.{Bool, true, false, not, cond}
 use mathlib.Core.Path.{_≡_, ap, sym, _∙_}
@@ -17,7 +17,7 @@ use Rattle.arith.proofs.Laws.BoundedValue.{bounded-value, BoundedValue, value-u
 use Rattle.arith.proofs.Laws.Sizes.{Given}
 use Rattle.roots.proofs.Rounding.Key.{side, unit, unit-pos}
 use Rattle.arith.proofs.Laws.Order.{finite-le}
-use Rattle.section.specs.Demand.{UpTo}
+use Rattle.section.specs.Demand.{AtMost}
 
 -- m * 2 ^ e and 2 ^ n as `le` compares them
 abbrev size : ℕ → ℤ → ℕ
@@ -36,9 +36,9 @@ value-of n {s} {m} {e} h =
     bounded-value (le-trans (mul-le-mul-right (unit binary64) k) (le-of-eq (sym (scale n (down e)))))
 
 -- ---- both ways
-upTo-value : {n : ℕ} {x : Float} → UpTo n x → BoundedValue binary64 (n + 1074) x
+atMost-value : {n : ℕ} {x : Float} → AtMost n x → BoundedValue binary64 (n + 1074) x
 unfolding isFinite neg
-upTo-value {n} {x} U = go x (U .ends) (U .least) (U .most)
+atMost-value {n} {x} U = go x (U .ends) (U .least) (U .most)
   where
     within : (s : Bool) (a c : ℕ) → side (suc (c + a)) true c ≤ side (suc (c + a)) s a
         → side (suc (a + c)) s a ≤ side (suc (a + c)) false c → a ≤ c
@@ -53,12 +53,12 @@ upTo-value {n} {x} U = go x (U .ends) (U .least) (U .most)
         value-of n (within s (size m e) (most n e) (leb→le _ _ (rw (finite-le true s 1 m (pos n) e) at l))
         (leb→le _ _ (rw (finite-le s false m 1 e (pos n)) at h)))
 
-pub upTo-given : {n : ℕ} {x : Float} → UpTo n x → Given n x
-upTo-given U = record { value = upTo-value U }
+pub atMost-given : {n : ℕ} {x : Float} → AtMost n x → Given n x
+atMost-given U = record { value = atMost-value U }
 
-pub value-upTo : (n : ℕ) {x : Float} → BoundedValue binary64 (n + 1074) x → UpTo n x
+pub value-atMost : (n : ℕ) {x : Float} → BoundedValue binary64 (n + 1074) x → AtMost n x
 unfolding isFinite neg
-value-upTo n (bounded-value {s} {m} {e} X) =
+value-atMost n (bounded-value {s} {m} {e} X) =
     let w = within s (size m e) (most n e) h in
     record {
       ends = tt;
@@ -74,10 +74,10 @@ value-upTo n (bounded-value {s} {m} {e} X) =
     within false a c h = omega arith
     within true a c h = omega arith
 
-pub upTo-raise : {i j : ℕ} {x : Float} → UpTo i x → T (leb i j) → UpTo j x
-upTo-raise {i} {j} U t =
+pub atMost-raise : {i j : ℕ} {x : Float} → AtMost i x → T (leb i j) → AtMost j x
+atMost-raise {i} {j} U t =
     let h = leb→le i j t in
-    value-upTo j (value-up binary64 (i + 1074) (j + 1074) (omega arith) (upTo-value U))
+    value-atMost j (value-up binary64 (i + 1074) (j + 1074) (omega arith) (atMost-value U))
 
 -- ---- 01's limit
 within-limit : (s : Bool) (m : ℕ) (e : ℤ) → T (not (limit ≺ abs (fin s m e))) → size m e ≤ most 20 e
@@ -95,8 +95,8 @@ within-limit true m e l = go (ltb 0 (size m e + 0 * 1 * down e)) (nltb→le 0 (s
     go true f l = nltb→le (most 20 e) (size m e) l
     go false f l = omega (arith, f tt)
 
-pub limit-upTo : (x : Float) → T (isFinite x) → T (not (limit ≺ abs x)) → UpTo 20 x
+pub limit-atMost : (x : Float) → T (isFinite x) → T (not (limit ≺ abs x)) → AtMost 20 x
 unfolding isFinite
-limit-upTo nan f l = absurd f
-limit-upTo (inf s) f l = absurd f
-limit-upTo (fin s m e) f l = value-upTo 20 (value-of 20 (within-limit s m e l))
+limit-atMost nan f l = absurd f
+limit-atMost (inf s) f l = absurd f
+limit-atMost (fin s m e) f l = value-atMost 20 (value-of 20 (within-limit s m e l))

@@ -21,12 +21,12 @@ flattened-snoc [] v = refl
 flattened-snoc (x ∷ xs) v = ap (λ (l : List Float). x .z ∷ x .r ∷ l) (flattened-snoc xs v)
 
 -- i vertices of xs have been copied to the front of l, unless there are too many
-pub record Filled (xs : List Vertex) (i : ℕ) (l : List Float) : Type 0 where
+pub record FrontFilled (xs : List Vertex) (i : ℕ) (l : List Float) : Type 0 where
   pub low : i ≤ length xs
   pub size : length l ≡ 512
   pub front : i ≤ 256 → take (2 * i) l ≡ flattened (take i xs)
 
-pub filled-start : (xs : List Vertex) (l : List Float) → length l ≡ 512 → Filled xs 0 l
+pub filled-start : (xs : List Vertex) (l : List Float) → length l ≡ 512 → FrontFilled xs 0 l
 unfolding flattened
 filled-start xs l e = record { low = omega arith; size = e; front = λ h. refl }
 
@@ -42,7 +42,7 @@ two-more l i a b h =
     ∙ ap (λ (k : List Float). k ++ (b ∷ [])) (ap (λ (k : ℕ). take k m) f ∙ take-suc-set l (2 * i) a low)
     ∙ append-assoc (take (2 * i) l) (a ∷ []) (b ∷ [])
 
-module _ (xs : List Vertex) (i : ℕ) (l : List Float) (d : Vertex) (f : Filled xs i l) (h : i < length xs) where
+module _ (xs : List Vertex) (i : ℕ) (l : List Float) (d : Vertex) (f : FrontFilled xs i l) (h : i < length xs) where
   abbrev v : Vertex
   v = getD xs i d
 
@@ -54,7 +54,7 @@ module _ (xs : List Vertex) (i : ℕ) (l : List Float) (d : Vertex) (f : Filled 
       ∙ ap flattened (sym (take-suc xs i d h) ∙ ap (λ (m : ℕ). take m xs) (sym (add-one i)))
 
   next-by : (t : Bool) → ltb i 256 ≡ t
-      → Filled xs (cond t (i + 1) (length xs)) (cond t (set (set l (2 * i) (v .z)) (2 * i + 1) (v .r)) l)
+      → FrontFilled xs (cond t (i + 1) (length xs)) (cond t (set (set l (2 * i) (v .z)) (2 * i + 1) (v .r)) l)
   next-by true e =
       record {
         low = omega arith;
@@ -65,7 +65,7 @@ module _ (xs : List Vertex) (i : ℕ) (l : List Float) (d : Vertex) (f : Filled 
       let full : 256 ≤ i = ltb-false i 256 e in
       record { low = omega arith; size = f .size; front = λ k. absurd (omega arith) }
 
-  pub filled-next : Filled xs (next i (length xs)) (stored i v l)
+  pub filled-next : FrontFilled xs (next i (length xs)) (stored i v l)
   unfolding next stored
   filled-next = next-by (ltb i 256) refl
 

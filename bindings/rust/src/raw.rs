@@ -1,6 +1,5 @@
 //! The C functions, as `crates/capi/jorghipa.h` declares them: 0 or the number of the refusal.
 //! The caller owes valid, aligned pointers, non-null even at count 0, and no lent place that overlaps another.
-#![allow(missing_docs, clippy::missing_safety_doc, clippy::too_many_arguments)]
 
 #[rustfmt::skip]
 unsafe extern "C" {
@@ -26,13 +25,6 @@ unsafe extern "C" {
     pub fn jorghipa_build_polygon(
         points: *const f64, points_count: usize, space: *mut f64, space_count: usize, kept: *mut usize,
     ) -> u32;
-    pub fn jorghipa_sqrt(x: f64) -> f64;
-    pub fn jorghipa_hypot(a: f64, b: f64) -> f64;
-}
-
-#[cfg(feature = "cylinders")]
-#[rustfmt::skip]
-unsafe extern "C" {
     pub fn jorghipa_cylinder(
         section: *const f64, section_count: usize, ax: f64, ay: f64, az: f64, bx: f64, by: f64, bz: f64, radius: f64,
         distance: *mut f64, witness_z: *mut f64, witness_radius: *mut f64,
@@ -54,11 +46,14 @@ unsafe extern "C" {
         convex: *const f64, convex_count: usize, section: *const f64, section_count: usize, clearance: f64,
         collision: *mut u32,
     ) -> u32;
+    pub fn jorghipa_sqrt(x: f64) -> f64;
+    pub fn jorghipa_hypot(a: f64, b: f64) -> f64;
 }
 
 /// The records of `crates/records/jorghipa_records.h`.
 #[cfg(feature = "records")]
 mod records {
+    /// A vertex of a section.
     #[repr(C)]
     #[derive(Clone, Copy, Debug, PartialEq)]
     pub struct Vertex {
@@ -101,7 +96,6 @@ mod records {
     }
 
     #[repr(C)]
-    #[derive(Debug, PartialEq)]
     pub struct Reply {
         pub distance: f64,
         pub witness_z: f64,
@@ -110,7 +104,6 @@ mod records {
     }
 
     #[repr(C)]
-    #[derive(Debug, PartialEq)]
     pub struct CylinderReply {
         pub distance: f64,
         pub witness_z: f64,

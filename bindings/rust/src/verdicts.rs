@@ -1,37 +1,6 @@
-//! Cylinders along or across the spindle, and verdicts against a clearance.
+//! Whether a body comes closer to the section than a clearance: whether distance + 1e-9 < clearance.
 
-use crate::{Hit, Point, Rectangle, Refusal, Sphere, accepted, raw};
-
-/// A flat-capped cylinder; a and b are the centres of its caps.
-#[derive(Clone, Copy, Debug, PartialEq)]
-pub struct Cylinder {
-    pub a: Point,
-    pub b: Point,
-    pub radius: f64,
-}
-
-/// A hit, the boxes that were measured, the most pieces that waited, and whether the walk was cut short.
-#[derive(Clone, Copy, Debug, PartialEq)]
-pub struct CylinderHit {
-    pub hit: Hit,
-    pub boxes: u32,
-    pub waiting: u32,
-    pub cut: bool,
-}
-
-/// Distance of a cylinder. Refusals 1 to 5, 9 and 11.
-pub fn cylinder(section: &[f64], cylinder: Cylinder) -> Result<CylinderHit, Refusal> {
-    let Cylinder { a, b, radius } = cylinder;
-    let (mut boxes, mut waiting, mut cut) = (0, 0, 0);
-    let hit = crate::hit(|d, wz, wr| unsafe {
-        let (list, count) = (section.as_ptr(), section.len());
-        let counts = (&mut boxes, &mut waiting, &mut cut);
-        raw::jorghipa_cylinder(
-            list, count, a.x, a.y, a.z, b.x, b.y, b.z, radius, d, wz, wr, counts.0, counts.1, counts.2,
-        )
-    })?;
-    Ok(CylinderHit { hit, boxes, waiting, cut: cut != 0 })
-}
+use crate::{Cylinder, Point, Rectangle, Refusal, Sphere, raw, refusal::accepted};
 
 /// Runs a call that gives a verdict: true is a collision.
 fn verdict(call: impl FnOnce(&mut u32) -> u32) -> Result<bool, Refusal> {
@@ -43,6 +12,7 @@ fn verdict(call: impl FnOnce(&mut u32) -> u32) -> Result<bool, Refusal> {
 /// Whether a sphere comes closer than the clearance. Refusals 1 to 5 and 9.
 pub fn verdict_sphere(section: &[f64], sphere: Sphere, clearance: f64) -> Result<bool, Refusal> {
     let Point { x, y, z } = sphere.center;
+    // SAFETY (here and below): the slices are valid for their lengths.
     verdict(|collision| unsafe {
         raw::jorghipa_verdict_sphere(section.as_ptr(), section.len(), x, y, z, sphere.radius, clearance, collision)
     })
@@ -67,14 +37,8 @@ pub fn verdict_cylinder(section: &[f64], cylinder: Cylinder, clearance: f64) -> 
 
 /// Whether a convex polygon comes closer than the clearance. Refusals 1 to 5.
 pub fn verdict_convex(convex: &[f64], section: &[f64], clearance: f64) -> Result<bool, Refusal> {
+    let (list, count) = (convex.as_ptr(), convex.len());
     verdict(|collision| unsafe {
-        raw::jorghipa_verdict_convex(
-            convex.as_ptr(),
-            convex.len(),
-            section.as_ptr(),
-            section.len(),
-            clearance,
-            collision,
-        )
+        raw::jorghipa_verdict_convex(list, count, section.as_ptr(), section.len(), clearance, collision)
     })
 }

@@ -1,0 +1,71 @@
+//! Refusals, by number.
+
+use std::error::Error;
+use std::fmt;
+
+/// The number under which a call was turned down, of the [table](crate#refusals).
+///
+/// ```
+/// use jorghipa::Refusal;
+///
+/// assert_eq!(Refusal(9).to_string(), "refused 9: body radius below 0");
+/// assert_eq!(Refusal(99).to_string(), "refused 99");
+/// ```
+#[derive(Clone, Copy, Debug, PartialEq, Eq, Hash)]
+pub struct Refusal(pub u32);
+
+impl Refusal {
+    /// What the number stands for; None if it is unknown.
+    pub fn meaning(self) -> Option<&'static str> {
+        Some(match self.0 {
+            1 => "odd count of numbers",
+            2 => "fewer than 3 vertices, or 2 section points",
+            3 => "over 256 vertices, or 254 section points",
+            4 => "a number is NaN or infinite",
+            5 => "a magnitude over 1,048,576",
+            6 => "section radius below -1e-9",
+            7 => "builder space too small",
+            8 => "under 3 vertices kept",
+            9 => "body radius below 0",
+            10 => "z1 < z0 or r1 < r0",
+            11 => "cylinder neither along the spindle nor across it",
+            12 => "store length wrong",
+            13 => "next past the end of the store, or a record twice",
+            14 => "record of the wrong kind",
+            _ => return None,
+        })
+    }
+}
+
+impl fmt::Display for Refusal {
+    fn fmt(&self, f: &mut fmt::Formatter) -> fmt::Result {
+        write!(f, "refused {}", self.0)?;
+        self.meaning().map_or(Ok(()), |meaning| write!(f, ": {meaning}"))
+    }
+}
+
+impl Error for Refusal {}
+
+/// What a C function returns: 0, or the number of a refusal.
+pub(crate) fn accepted(number: u32) -> Result<(), Refusal> {
+    if number == 0 { Ok(()) } else { Err(Refusal(number)) }
+}
+
+#[cfg(test)]
+mod tests {
+    use super::*;
+
+    /// Numbers 1 to 14 of the README's table, and no other.
+    #[test]
+    fn every_known_number_has_its_meaning() {
+        let table: Vec<&str> =
+            include_str!("../README.md").lines().filter(|line| line.starts_with("| ")).skip(1).collect();
+        assert_eq!(table.len(), 14);
+        for (number, row) in (1..).zip(table) {
+            assert_eq!(row, format!("| {number} | {} |", Refusal(number).meaning().unwrap()));
+        }
+        for unknown in [0, 15, u32::MAX] {
+            assert_eq!(Refusal(unknown).to_string(), format!("refused {unknown}"));
+        }
+    }
+}
