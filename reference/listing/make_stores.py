@@ -96,6 +96,8 @@ STORES = {
         + [sphere(10, 0, -5, 1), box(-5, -1, -0.0, 5), box(20, 25, 0, 5)]
     ),
     "largest": in_order(vertices(S[:3]) + [sphere(k / 8, 100, 1, 5) for k in range(508)]),
+    # longer than one read of 4,096 bytes, and the chain begins behind it
+    "two_reads": backwards(in_order(vertices(S) + [sphere(k / 8, 100, 1, 5) for k in range(100)])),
 }
 
 

@@ -37,7 +37,7 @@ pub struct Sphere {
 
 /// A box of z0 to z1 and radius r0 to r1.
 #[derive(Clone, Copy, Debug, PartialEq)]
-pub struct Rectangle {
+pub struct Aabb {
     pub z0: f64,
     pub z1: f64,
     pub r0: f64,
@@ -65,8 +65,8 @@ pub fn sphere(section: &[f64], sphere: Sphere) -> Result<Hit, Refusal> {
 }
 
 /// Distance of a box. Refusals 1 to 5 and 10.
-pub fn rectangle(section: &[f64], bounds: Rectangle) -> Result<Hit, Refusal> {
-    let Rectangle { z0, z1, r0, r1 } = bounds;
+pub fn aabb(section: &[f64], bounds: Aabb) -> Result<Hit, Refusal> {
+    let Aabb { z0, z1, r0, r1 } = bounds;
     hit(|d, wz, wr| unsafe { raw::jorghipa_box(section.as_ptr(), section.len(), z0, z1, r0, r1, d, wz, wr) })
 }
 

@@ -1,7 +1,7 @@
 //! Point, sphere, box and cylinder beside a section that is a slice of vertex records.
 
 pub use crate::raw::Vertex;
-use crate::{Cylinder, CylinderHit, Hit, Point, Rectangle, Refusal, Sphere, raw, refusal::accepted};
+use crate::{Aabb, Cylinder, CylinderHit, Hit, Point, Refusal, Sphere, raw, refusal::accepted};
 
 fn hit(reply: raw::Reply) -> Result<Hit, Refusal> {
     accepted(reply.number)?;
@@ -23,8 +23,8 @@ pub fn sphere_of(section: &[Vertex], sphere: Sphere) -> Result<Hit, Refusal> {
 }
 
 /// Distance of a box, the section as vertex records. Refusals 2 to 5 and 10.
-pub fn rectangle_of(section: &[Vertex], bounds: Rectangle) -> Result<Hit, Refusal> {
-    let Rectangle { z0, z1, r0, r1 } = bounds;
+pub fn box_of(section: &[Vertex], bounds: Aabb) -> Result<Hit, Refusal> {
+    let Aabb { z0, z1, r0, r1 } = bounds;
     hit(unsafe { raw::jorghipa_box_of(section.as_ptr(), section.len(), raw::Bounds { z0, z1, r0, r1 }) })
 }
 

@@ -1,6 +1,6 @@
 //! Whether a body comes closer to the section than a clearance: whether distance + 1e-9 < clearance.
 
-use crate::{Cylinder, Point, Rectangle, Refusal, Sphere, raw, refusal::accepted};
+use crate::{Aabb, Cylinder, Point, Refusal, Sphere, raw, refusal::accepted};
 
 /// Runs a call that gives a verdict: true is a collision.
 fn verdict(call: impl FnOnce(&mut u32) -> u32) -> Result<bool, Refusal> {
@@ -19,8 +19,8 @@ pub fn verdict_sphere(section: &[f64], sphere: Sphere, clearance: f64) -> Result
 }
 
 /// Whether a box comes closer than the clearance. Refusals 1 to 5 and 10.
-pub fn verdict_rectangle(section: &[f64], bounds: Rectangle, clearance: f64) -> Result<bool, Refusal> {
-    let Rectangle { z0, z1, r0, r1 } = bounds;
+pub fn verdict_box(section: &[f64], bounds: Aabb, clearance: f64) -> Result<bool, Refusal> {
+    let Aabb { z0, z1, r0, r1 } = bounds;
     verdict(|collision| unsafe {
         raw::jorghipa_verdict_box(section.as_ptr(), section.len(), z0, z1, r0, r1, clearance, collision)
     })

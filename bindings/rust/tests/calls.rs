@@ -12,8 +12,8 @@ fn hit(distance: f64, witness_z: f64, witness_radius: f64) -> Hit {
     Hit { distance, witness_z, witness_radius }
 }
 
-fn bounds(z0: f64, z1: f64, r0: f64, r1: f64) -> Rectangle {
-    Rectangle { z0, z1, r0, r1 }
+fn bounds(z0: f64, z1: f64, r0: f64, r1: f64) -> Aabb {
+    Aabb { z0, z1, r0, r1 }
 }
 
 fn bar(a: Point, b: Point, radius: f64) -> Cylinder {
@@ -26,8 +26,8 @@ fn readings() {
     assert_eq!(point(&S, at(3.0, 4.0, 30.0)), Ok(hit(10.0, 20.0, 5.0)));
     assert_eq!(point(&[0.0, 0.0, 20.0, 0.0, 0.0, 0.0], at(1.0, 2.0, 3.0)), Ok(hit(f64::INFINITY, 0.0, 0.0)));
     assert_eq!(sphere(&S, Sphere { center: at(0.0, 0.0, 30.0), radius: 4.0 }), Ok(hit(6.0, 20.0, 0.0)));
-    assert_eq!(rectangle(&S, bounds(18.0, 30.0, 0.0, 5.0)), Ok(hit(-2.0, 20.0, 0.0)));
-    assert_eq!(rectangle(&S, bounds(-5.0, 25.0, 5.0, 15.0)), Ok(hit(-1e-8, 20.0, 10.0)));
+    assert_eq!(aabb(&S, bounds(18.0, 30.0, 0.0, 5.0)), Ok(hit(-2.0, 20.0, 0.0)));
+    assert_eq!(aabb(&S, bounds(-5.0, 25.0, 5.0, 15.0)), Ok(hit(-1e-8, 20.0, 10.0)));
     let corners = [25.0, 0.0, 30.0, 0.0, 30.0, 5.0, 25.0, 5.0];
     assert_eq!(convex(&corners, &S).map(|hit| hit.distance), Ok(5.0));
     let along = bar(at(15.0, 0.0, 0.0), at(15.0, 0.0, 30.0), 2.0);
@@ -42,7 +42,7 @@ fn verdicts() {
     let ball = Sphere { center: at(0.0, 0.0, 30.0), radius: 4.0 };
     assert_eq!(verdict_sphere(&S, ball, 6.0), Ok(false));
     assert_eq!(verdict_sphere(&S, ball, 6.0 + 2e-9), Ok(true));
-    assert_eq!(verdict_rectangle(&S, bounds(25.0, 30.0, 0.0, 5.0), 5.5), Ok(true));
+    assert_eq!(verdict_box(&S, bounds(25.0, 30.0, 0.0, 5.0), 5.5), Ok(true));
     assert_eq!(verdict_cylinder(&S, bar(at(15.0, 0.0, 0.0), at(15.0, 0.0, 30.0), 2.0), 3.0), Ok(false));
     assert_eq!(verdict_convex(&[25.0, 0.0, 30.0, 0.0, 30.0, 5.0], &S, 4.0), Ok(false));
 }
@@ -71,7 +71,7 @@ fn refusals() {
     assert_eq!(build_section(&[0.0, 10.0, 0.0, 0.0], &mut space), Err(Refusal(8)));
     assert_eq!(space, [7.0; 8]);
     assert_eq!(sphere(&S, Sphere { center: origin, radius: -1.0 }), Err(Refusal(9)));
-    assert_eq!(rectangle(&S, bounds(5.0, 4.0, 0.0, 5.0)), Err(Refusal(10)));
+    assert_eq!(aabb(&S, bounds(5.0, 4.0, 0.0, 5.0)), Err(Refusal(10)));
     assert_eq!(cylinder(&S, bar(origin, at(1.0, 0.0, 1.0), 1.0)), Err(Refusal(11)));
 }
 
@@ -83,7 +83,7 @@ fn records() {
     let along = bar(at(15.0, 0.0, 0.0), at(15.0, 0.0, 30.0), 2.0);
     assert_eq!(point_of(&section, at(3.0, 4.0, 30.0)), point(&S, at(3.0, 4.0, 30.0)));
     assert_eq!(sphere_of(&section, ball), sphere(&S, ball));
-    assert_eq!(rectangle_of(&section, bounds(25.0, 30.0, 0.0, 5.0)), rectangle(&S, bounds(25.0, 30.0, 0.0, 5.0)));
+    assert_eq!(box_of(&section, bounds(25.0, 30.0, 0.0, 5.0)), aabb(&S, bounds(25.0, 30.0, 0.0, 5.0)));
     assert_eq!(cylinder_of(&section, along), cylinder(&S, along));
     assert_eq!(point_of(&section[..2], at(0.0, 0.0, 0.0)), Err(Refusal(2)));
 }

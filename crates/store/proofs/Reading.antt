@@ -7,7 +7,7 @@ use mathlib.Core.Path.{_≡_, refl, _∙_}
 use lib.ListN.{length}
 use lib.Dec.{eqb, leb}
 use lib.Ieee.{Float}
-use borrow.Author.Tests.{ne-eqb, lt-ltb, le-ltb, leb-true}
+use borrow.Author.Tests.{ne-eqb, lt-ltb, le-ltb, eqb-true, leb-true}
 use Rattle.profile.specs.Refusals.{anyOf, listTests, refusal}
 use Rattle.profile.proofs.Refusals.Passed.{Counted, list-counted}
 use Rattle.store.specs.Records.{records, rightLength}
@@ -21,18 +21,27 @@ never : {n k : ℕ} → Refused n k ≡ Accepted → ⊥
 never e = let z : _≡_ {A = ℕ} 0 1 = cc in omega arith
 
 -- an accepted length is that of 1 to 512 records
-all-three : (a b c : Bool) → cond (a && (b && c)) Accepted (Refused 12 0) ≡ Accepted → (b ≡ true) × (c ≡ true)
-all-three true true true e = (refl, refl)
+pub record Whole (n : ℕ) : Type 0 where
+  pub even : n % 40 ≡ 0
+  pub some : 1 ≤ n / 40
+  pub most : n / 40 ≤ 512
+
+all-three :
+    (a b c : Bool) → cond (a && (b && c)) Accepted (Refused 12 0) ≡ Accepted → (a ≡ true) × (b ≡ true) × (c ≡ true)
+all-three true true true e = (refl, refl, refl)
 all-three true true false e = absurd (never e)
 all-three true false c e = absurd (never e)
 all-three false b c e = absurd (never e)
 
-pub length-accepted : (n : ℕ) → lengthAnswer n ≡ Accepted → (1 ≤ n / 40) × (n / 40 ≤ 512)
+pub length-accepted : (n : ℕ) → lengthAnswer n ≡ Accepted → Whole n
 unfolding lengthAnswer rightLength
 length-accepted n e =
-    let h : (leb 1 (n / 40) ≡ true) × (leb (n / 40) 512 ≡ true) =
-    all-three (eqb (n % 40) 0) (leb 1 (n / 40)) (leb (n / 40) 512) e in
-    (leb-true 1 (n / 40) (h .0), leb-true (n / 40) 512 (h .1))
+    let h = all-three (eqb (n % 40) 0) (leb 1 (n / 40)) (leb (n / 40) 512) e in
+    record {
+      even = eqb-true (n % 40) 0 (h .0);
+      some = leb-true 1 (n / 40) (h .1);
+      most = leb-true (n / 40) 512 (h .2);
+    }
 
 -- the section's number
 pub section-number : {t s : List Float} {n : ℕ} → t ≡ s → n ≡ refusal (listTests 3 256 t) → sectionAnswer s ≡ numbered n
@@ -81,8 +90,8 @@ accepted-sound b e =
     let third = both (kindsAnswer b (inOrder (chain b))) _ (second .1) in
     let size = length-accepted (length b) (first .0) in
     record {
-      some = size .0;
-      most = size .1;
+      some = size .some;
+      most = size .most;
       links = whole-chain (chain b) (second .0);
       kinds = third .0;
       section = third .1;

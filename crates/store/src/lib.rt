@@ -13,5 +13,6 @@ pub use reader::read_store;
 pub use answers::Filled;
 pub use bytes::kind_of;
 pub use bytes::number_of;
+pub use reader::length_answer;
 pub use reader::read_chain;
 pub use reader::read_section;

@@ -20,7 +20,7 @@ fn right_length(n: usize) -> bool
 }
 
 // The verdict on a length alone.
-fn length_answer(n: usize) -> StoreAnswer
+pub fn length_answer(n: usize) -> StoreAnswer
     ensures { λ r. ⌜ r ≡ lengthAnswer n ⌝ }
 {
     if right_length(n) {

@@ -5,7 +5,6 @@ use mathlib.Core.Bool.{_||_, cond}
 use mathlib.Core.List.{List, [], _++_, flatMap}
 use mathlib.Core.Path.{_≡_}
 use lib.ListN.{length, take, drop}
-use lib.Dec.{leb}
 use lib.Ieee.{Float}
 use Rattle.profile.specs.Vertices.{count}
 use Rattle.profile.specs.Replies.{Reply, value, turned-down}
@@ -15,7 +14,7 @@ use Rattle.profile.specs.declared.shapes.Sphere.{Sphere}
 use Rattle.profile.specs.declared.shapes.CollisionHit.{CollisionHit}
 use Rattle.store.specs.Records.{number}
 use Rattle.store.specs.Kinds.{isSphere, isBox}
-use Rattle.store.specs.Store.{vertices, storeAnswer, chained}
+use Rattle.store.specs.Store.{andThen, vertices, lengthAnswer, storeAnswer, chained}
 use Rattle.store_listing.specs.Text.{text, decimal, bits}
 use Rattle.store.specs.declared.answers.StoreAnswer.{StoreAnswer}
 use Rattle.store.specs.declared.answers.StoreAnswer.the-variants.{Accepted, Refused as Turned}
@@ -75,10 +74,10 @@ listingOf b (Turned n k) = refusalLine n k
 unfoldable pub listing : List ℕ → List ℕ
 listing b = listingOf b (storeAnswer b)
 
--- Of an input of n bytes that went into a buffer as far as it reaches. What is longer than a buffer for the largest store
--- is no store.
+-- Of an input of n bytes that went into a buffer for the largest store, as far as it reaches. A refused length decides;
+-- of any other length the whole input is there.
 unfoldable pub inputListing : ℕ → List ℕ → List ℕ
-inputListing n buffer = cond (leb n (length buffer)) (listing (take n buffer)) (refusalLine 12 0)
+inputListing n buffer = let b = take n buffer in listingOf b (andThen (lengthAnswer n) (storeAnswer b))
 
 -- what `list_store` answers: how many bytes the listing has, or the refusal
 abbrev pub listAnswer : StoreAnswer → List ℕ → ListAnswer

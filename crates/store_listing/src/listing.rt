@@ -9,6 +9,8 @@ use super::lines::put_lines;
 use super::lines::put_refusal_line;
 use super::lines::put_section_line;
 use store::Filled;
+use store::StoreAnswer;
+use store::length_answer;
 use store::read_chain;
 use store::read_section;
 
@@ -62,13 +64,15 @@ fn put_listing(store: &[u8], text: &mut [u8; 27848]) -> usize
     }
 }
 
-// The same of an input of n bytes that went into the buffer as far as it reaches. From 20,480 bytes
-// on a buffer holds every store, so that what is longer is none.
-pub fn list_input(buffer: &[u8], n: usize, text: &mut [u8; 27848]) -> usize
+// The same of an input of n bytes that went into the buffer as far as it reaches. The buffer holds
+// the largest store, so that what is longer is none.
+pub fn list_input(buffer: &[u8; 20480], n: usize, text: &mut [u8; 27848]) -> usize
     ensures { λ r. ⌜ Prints (inputListing n (now (buffer .entry))) (now (text .entry)) (now (text .exit)) r ⌝ }
 {
-    if n <= buffer.len() {
-        return put_listing(&buffer[..n], text);
+    let room: &[u8] = buffer;
+    let whole = length_answer(n);
+    match whole {
+        StoreAnswer::Refused(number, k) => put_refusal_line(number, k, text),
+        StoreAnswer::Accepted => put_listing(&room[..n], text),
     }
-    put_refusal_line(12, 0, text)
 }

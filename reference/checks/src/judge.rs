@@ -29,13 +29,13 @@ fn accepted(query: &Query) -> Result<(), u32> {
         Kind::Sqrt | Kind::Hypot => Ok(()),
         Kind::Point => table::point(list(0), query.array(), &[]),
         Kind::Sphere => table::sphere(list(0), query.array(), &[]),
-        Kind::Box => table::rectangle(list(0), query.array(), &[]),
+        Kind::Box => table::aabb(list(0), query.array(), &[]),
         Kind::Convex => table::convex(list(0), list(1), &[]),
         Kind::Section => table::build_section(list(0), &space(query)).map(|_| ()),
         Kind::Polygon => table::build_polygon(list(0), &space(query)).map(|_| ()),
         Kind::Cylinder => table::cylinder(list(0), query.array(), &[]),
         Kind::VerdictSphere => table::sphere(list(0), query.array(), &query.numbers[4..]),
-        Kind::VerdictBox => table::rectangle(list(0), query.array(), &query.numbers[4..]),
+        Kind::VerdictBox => table::aabb(list(0), query.array(), &query.numbers[4..]),
         Kind::VerdictCylinder => table::cylinder(list(0), query.array(), &query.numbers[7..]),
         Kind::VerdictConvex => table::convex(list(0), list(1), &query.numbers),
     }
@@ -47,7 +47,7 @@ fn answer(query: &Query) -> Option<Answer> {
         Kind::Hypot => Some(Answer::Values(vec![exact_hypot::hypot(query.numbers[0], query.numbers[1])])),
         Kind::Point => point(query).map(values),
         Kind::Sphere => sphere(query).map(values),
-        Kind::Box => rectangle(query).map(values),
+        Kind::Box => aabb(query).map(values),
         Kind::Convex => convex(query).map(values),
         Kind::Section => built(query, table::build_section, RevolvedSolid::try_from_section),
         Kind::Polygon => built(query, table::build_polygon, RevolvedSolid::try_from_polygon),
@@ -57,7 +57,7 @@ fn answer(query: &Query) -> Option<Answer> {
             Some(Answer::Walked([distance, witness.0, witness.1], counts))
         }
         Kind::VerdictSphere => verdict(query, sphere(query)?.0),
-        Kind::VerdictBox => verdict(query, rectangle(query)?.0),
+        Kind::VerdictBox => verdict(query, aabb(query)?.0),
         Kind::VerdictCylinder => verdict(query, cylinder(query)?.0.0),
         Kind::VerdictConvex => verdict(query, convex(query)?.0),
     }
@@ -77,7 +77,7 @@ fn sphere(query: &Query) -> Option<Hit> {
     probe::sphere(&probe::solid(&vertices(&query.lists[0])), Sphere { center: Vec3::new(x, y, z), radius })
 }
 
-fn rectangle(query: &Query) -> Option<Hit> {
+fn aabb(query: &Query) -> Option<Hit> {
     let [z0, z1, r0, r1] = query.array();
     aabb_polygon_distance(z0, z1, r0, r1, &vertices(&query.lists[0]))
 }
@@ -126,7 +126,7 @@ fn rust_refuses(query: &Query, number: u32) -> bool {
         Kind::Section => ![6, 8].contains(&number) || built_by_rust(query, RevolvedSolid::try_from_section).is_none(),
         Kind::Polygon => number != 8 || built_by_rust(query, RevolvedSolid::try_from_polygon).is_none(),
         Kind::Sphere => number != 9 || sphere(query).is_none(),
-        Kind::Box => number != 10 || rectangle(query).is_none(),
+        Kind::Box => number != 10 || aabb(query).is_none(),
         Kind::Cylinder => number != 11 || cylinder(query).is_none(),
         Kind::Sqrt | Kind::Hypot | Kind::Point | Kind::Convex => true,
         Kind::VerdictSphere | Kind::VerdictBox | Kind::VerdictCylinder | Kind::VerdictConvex => true,

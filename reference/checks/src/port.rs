@@ -3,7 +3,7 @@
 
 use crate::judge;
 use crate::query::{Answer, Kind, Query};
-use jorghipa::{Cylinder, CylinderHit, Hit, Point, Rectangle, Refusal, Sphere, raw};
+use jorghipa::{Aabb, Cylinder, CylinderHit, Hit, Point, Refusal, Sphere, raw};
 
 pub fn answer(query: &Query) -> Answer {
     let answer = flat(query);
@@ -21,7 +21,7 @@ fn flat(query: &Query) -> Answer {
         Kind::Hypot => Answer::Values(vec![jorghipa::hypot(query.numbers[0], query.numbers[1])]),
         Kind::Point => point(query),
         Kind::Sphere => sphere(query),
-        Kind::Box => rectangle(query),
+        Kind::Box => aabb(query),
         Kind::Convex => convex(query),
         Kind::Section => {
             built(query, |points, space| Ok(jorghipa::build_section(points, space)?.len()), raw::jorghipa_build_section)
@@ -31,7 +31,7 @@ fn flat(query: &Query) -> Answer {
         }
         Kind::Cylinder => cylinder(query),
         Kind::VerdictSphere => verdict_sphere(query),
-        Kind::VerdictBox => verdict_rectangle(query),
+        Kind::VerdictBox => verdict_box(query),
         Kind::VerdictCylinder => verdict_cylinder(query),
         Kind::VerdictConvex => verdict_convex(query),
     }
@@ -78,9 +78,9 @@ fn ball(query: &Query) -> Sphere {
     Sphere { center: place(query), radius }
 }
 
-fn bounds(query: &Query) -> Rectangle {
+fn bounds(query: &Query) -> Aabb {
     let [z0, z1, r0, r1] = query.array();
-    Rectangle { z0, z1, r0, r1 }
+    Aabb { z0, z1, r0, r1 }
 }
 
 fn bar(query: &Query) -> Cylinder {
@@ -103,9 +103,9 @@ fn sphere(query: &Query) -> Answer {
     })
 }
 
-fn rectangle(query: &Query) -> Answer {
+fn aabb(query: &Query) -> Answer {
     let ((list, count), [z0, z1, r0, r1]) = (lent(query, 0), query.array());
-    told(jorghipa::rectangle(&query.lists[0], bounds(query)).map(hit), |[d, wz, wr], _| unsafe {
+    told(jorghipa::aabb(&query.lists[0], bounds(query)).map(hit), |[d, wz, wr], _| unsafe {
         raw::jorghipa_box(list, count, z0, z1, r0, r1, d, wz, wr)
     })
 }
@@ -133,9 +133,9 @@ fn verdict_sphere(query: &Query) -> Answer {
     })
 }
 
-fn verdict_rectangle(query: &Query) -> Answer {
+fn verdict_box(query: &Query) -> Answer {
     let ((list, count), [z0, z1, r0, r1, clearance]) = (lent(query, 0), query.array());
-    let result = jorghipa::verdict_rectangle(&query.lists[0], bounds(query), clearance);
+    let result = jorghipa::verdict_box(&query.lists[0], bounds(query), clearance);
     told(result.map(Answer::Verdict), |_, [collision, ..]| unsafe {
         raw::jorghipa_verdict_box(list, count, z0, z1, r0, r1, clearance, collision)
     })
@@ -183,7 +183,7 @@ mod records {
         let call: fn(&[Vertex], &Query) -> Result<Answer, Refusal> = match query.kind {
             Kind::Point => |section, query| jorghipa::point_of(section, place(query)).map(hit),
             Kind::Sphere => |section, query| jorghipa::sphere_of(section, ball(query)).map(hit),
-            Kind::Box => |section, query| jorghipa::rectangle_of(section, bounds(query)).map(hit),
+            Kind::Box => |section, query| jorghipa::box_of(section, bounds(query)).map(hit),
             Kind::Cylinder => |section, query| jorghipa::cylinder_of(section, bar(query)).map(walked),
             Kind::Sqrt | Kind::Hypot | Kind::Convex | Kind::Section | Kind::Polygon => return None,
             Kind::VerdictSphere | Kind::VerdictBox | Kind::VerdictCylinder | Kind::VerdictConvex => return None,

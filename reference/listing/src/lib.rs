@@ -84,7 +84,7 @@ fn line(text: &mut String, k: usize, record: &Record, section: &[f64]) {
             table::sphere(section, record.numbers, &[]),
             probe::sphere(&probe::solid(&vertices), Sphere { center: Vec3::new(a, b, c), radius: d }),
         ),
-        3 => (table::rectangle(section, record.numbers, &[]), aabb_polygon_distance(a, b, c, d, &vertices)),
+        3 => (table::aabb(section, record.numbers, &[]), aabb_polygon_distance(a, b, c, d, &vertices)),
         _ => return,
     };
     if let Err(number) = accepted {

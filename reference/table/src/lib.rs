@@ -50,7 +50,7 @@ pub fn sphere(section: &[f64], body: [f64; 4], more: &[f64]) -> Result<(), u32> 
 }
 
 /// The body is z0, z1, r0, r1.
-pub fn rectangle(section: &[f64], body: [f64; 4], more: &[f64]) -> Result<(), u32> {
+pub fn aabb(section: &[f64], body: [f64; 4], more: &[f64]) -> Result<(), u32> {
     let [z0, z1, r0, r1] = body;
     first(&[&vertices(&[section]), &numbers(&[section, &body, more]), &[(10, z1 < z0 || r1 < r0)]])
 }
@@ -98,7 +98,7 @@ mod tests {
         assert_eq!(point(&S, [0.0, 0.0, -1_048_576.0], &[]), Ok(()));
         assert_eq!(sphere(&S, [0.0, 0.0, 0.0, -1.0], &[]), Err(9));
         assert_eq!(sphere(&S, [0.0, 0.0, 0.0, -0.0], &[]), Ok(()));
-        assert_eq!(rectangle(&S, [5.0, 4.0, 0.0, 1.0], &[]), Err(10));
+        assert_eq!(aabb(&S, [5.0, 4.0, 0.0, 1.0], &[]), Err(10));
         assert_eq!(cylinder(&S, [0.0, 0.0, 0.0, 1.0, 0.0, 1.0, 1.0], &[]), Err(11));
         assert_eq!(cylinder(&S, [0.0, 0.0, 0.0, 0.0, 0.0, 0.0, 1.0], &[]), Ok(()));
         assert_eq!(cylinder(&S, [0.0, 0.0, 0.0, 1e-320, 0.0, 0.0, 1.0], &[]), Err(11));
@@ -125,6 +125,6 @@ mod tests {
         assert_eq!(convex(&[0.0; 514], &S[..4], &[]), Err(2));
         assert_eq!(sphere(&S, [0.0, 0.0, 0.0, -2e6], &[]), Err(5));
         assert_eq!(sphere(&S, [2e6, 0.0, 0.0, -2.0], &[f64::NAN]), Err(4));
-        assert_eq!(rectangle(&S[..4], [5.0, 4.0, 0.0, f64::NAN], &[]), Err(2));
+        assert_eq!(aabb(&S[..4], [5.0, 4.0, 0.0, f64::NAN], &[]), Err(2));
     }
 }

@@ -6,14 +6,11 @@ use borrow.Author.Needs.{needs}
 use Rattle.listing.proofs.main.Statement.{statement}
 use Rattle.listing.proofs.main.Tie as tie
 
-slice-aggregate-read-all : tie.Need-slice-aggregate-read-all
-slice-aggregate-read-all c = search needs
+slice-aggregate-read-on : tie.Need-slice-aggregate-read-on
+slice-aggregate-read-on c = search needs
 
-read-all-requires : tie.Need-read-all-requires
-read-all-requires c κs = search needs
-
-slice-aggregate-list-input : tie.Need-slice-aggregate-list-input
-slice-aggregate-list-input c = search needs
+read-on-requires : tie.Need-read-on-requires
+read-on-requires c κs = search needs
 
 list-input-requires : tie.Need-list-input-requires
 list-input-requires c κs = search needs
@@ -36,9 +33,8 @@ pub main-spec : {M : Type 1} → statement M
 main-spec =
     tie.close
     (tie.spec
-    slice-aggregate-read-all
-    read-all-requires
-    slice-aggregate-list-input
+    slice-aggregate-read-on
+    read-on-requires
     list-input-requires
     array-share-prefix-text
     slice-aggregate-write-all

@@ -2,7 +2,7 @@
 
 use checks::judge::vertices;
 use checks::random::Random;
-use jorghipa::{Cylinder, Point, Rectangle, Sphere};
+use jorghipa::{Aabb, Cylinder, Point, Sphere};
 use std::hint::black_box;
 use std::time::{Duration, Instant};
 
@@ -119,13 +119,11 @@ fn queries(least: Duration) {
             over(&bodies, move |b| {
                 jorghipa::sphere(list, Sphere { center: Point { x: b.x, y: b.y, z: b.z }, radius: b.radius })
             }),
-            over(&bodies, move |b| {
-                jorghipa::rectangle(list, Rectangle { z0: b.z, z1: b.z + 5.0, r0: b.x, r1: b.x + b.radius })
-            }),
+            over(&bodies, move |b| jorghipa::aabb(list, Aabb { z0: b.z, z1: b.z + 5.0, r0: b.x, r1: b.x + b.radius })),
             over(&bodies, move |b| jorghipa::convex(&b.octagon, list)),
             over(&bodies, move |b| {
-                let bounds = Rectangle { z0: b.z, z1: b.z + 5.0, r0: b.x, r1: b.x + b.radius };
-                jorghipa::verdict_rectangle(list, bounds, CLEARANCE)
+                let bounds = Aabb { z0: b.z, z1: b.z + 5.0, r0: b.x, r1: b.x + b.radius };
+                jorghipa::verdict_box(list, bounds, CLEARANCE)
             }),
         ];
         let libm = rust!(revolve_libm, &libm, &points, &bodies);

@@ -78,7 +78,7 @@ pub fn sphere(random: &mut Random, style: Style, section: &[Vertex]) -> Vec<f64>
 
 /// z0, z1, r0, r1.
 pub fn bounds(random: &mut Random, style: Style, section: &[Vertex]) -> Vec<f64> {
-    rectangle(random, style, section).to_vec()
+    aabb(random, style, section).to_vec()
 }
 
 /// A radius, a width or a height.
@@ -92,7 +92,7 @@ fn size(random: &mut Random) -> f64 {
 }
 
 /// A box with a side, a corner or its middle at the target, or one around most of the section.
-fn rectangle(random: &mut Random, style: Style, section: &[Vertex]) -> [f64; 4] {
+fn aabb(random: &mut Random, style: Style, section: &[Vertex]) -> [f64; 4] {
     let (z, r) = target(random, style, section);
     let (z, r) = (z, if random.chance(1, 10) { r } else { r.abs() });
     let (w, h) = (size(random), size(random));
@@ -122,7 +122,7 @@ pub fn convex(random: &mut Random, style: Style, section: &[Vertex]) -> Vec<Vert
     let (z, r) = target(random, style, section);
     let body = match random.below(6) {
         0 => {
-            let [z0, z1, r0, r1] = rectangle(random, style, section);
+            let [z0, z1, r0, r1] = aabb(random, style, section);
             vec![(z0, r0), (z1, r0), (z1, r1), (z0, r1)]
         }
         1 => {

@@ -22,7 +22,7 @@ follow-chain-requires c κs =
     let c₃ = c₁ .before .before in
     let c₆ = c₃ .before .before .before in
     let h = length-accepted _ (sym (c₃ .length-answer .ensures) ∙ c₁ .enum-told .given .1) in
-    record { room = c₆ .pre; some = h .0; most = h .1 }
+    record { room = c₆ .pre; some = h .some; most = h .most }
 
 returns : tie.Need-returns
 returns c = fills-sooner _ (sym (c .before .before .before .length-answer .ensures) ∙ c .before .whole .given .1)

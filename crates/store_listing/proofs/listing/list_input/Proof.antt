@@ -1,44 +1,72 @@
--- `store_listing::listing::list_input` meets its contract.
+-- `store_listing::listing::list_input`. A refused length has its line; any other fits the buffer.
 use native.Mathlib.Omega.{arith}
+use mathlib.Core.Path.{sym, _∙_}
 use lib.ListN.{length-take}
-use borrow.Author.Tests.{le-leb, lt-leb}
-use Rattle.store_listing.specs.Listing.{inputListing}
+use Rattle.store_listing.specs.Listing.{inputListing, listing}
+use Rattle.store_listing.proofs.Inputs.{length-fits}
 use Rattle.store_listing.proofs.Listed.{refusal-short}
 use Rattle.store_listing.proofs.Writing.{front-written}
 use borrow.Author.Needs.{needs}
 use Rattle.store_listing.proofs.listing.list_input.Statement.{statement}
 use Rattle.store_listing.proofs.listing.list_input.Tie as tie
 
+length-answer-requires : tie.Need-length-answer-requires
+length-answer-requires c κs = search needs
+
+enum-known-whole : tie.Need-enum-known-whole
+enum-known-whole c = search needs
+
+put-refusal-line-requires : tie.Need-put-refusal-line-requires
+put-refusal-line-requires c κs =
+    let told = c .before .before .whole .given .0 in
+    omega (
+      arith,
+      refusal-short (told .0) (told .1 .0) (search needs) (search needs),
+      c .put-refusal-line-arg .given .0 .1,
+    )
+
+enum-told : tie.Need-enum-told
+enum-told c = search needs
+
 slice-aggregate-put-listing : tie.Need-slice-aggregate-put-listing
-slice-aggregate-put-listing c = simp length-take (omega arith)
+slice-aggregate-put-listing c =
+    let c₁ = c .before in
+    let c₃ = c₁ .before .before in
+    simp length-take (omega (
+      arith,
+      length-fits _ (sym (c₃ .length-answer .ensures) ∙ c₁ .enum-told .given .1),
+      c₃ .before .room .given .0,
+    ))
 
 put-listing-requires : tie.Need-put-listing-requires
 put-listing-requires c κs = search needs
 
 returns : tie.Need-returns
 unfolding inputListing
-returns c = rw (le-leb _ _ (c .before .before .before .if1 .taken)) (c .put-listing .ensures)
-
-put-refusal-line-requires : tie.Need-put-refusal-line-requires
-put-refusal-line-requires c κs =
-    omega (arith, refusal-short 12 0 (omega arith) (omega arith), c .put-refusal-line-arg .given .0 .1)
+returns c =
+    let c₃ = c .before .before .before in
+    let told = c₃ .whole .given .0 in
+    rw (← c₃ .before .before .length-answer .ensures, c₃ .whole .given .1) (front-written (c .put-refusal-line .ensures) (omega (
+      arith,
+      refusal-short (told .0) (told .1 .0) (search needs) (search needs),
+      c .before .put-refusal-line-arg .given .0 .1,
+    )))
 
 returns-2 : tie.Need-returns-2
-unfolding inputListing
+unfolding inputListing listing
 returns-2 c =
-    let c₁ = c .before in
-    rw (lt-leb _ _ (c₁ .before .if1 .left)) (front-written (c .put-refusal-line .ensures) (omega (
-      arith,
-      refusal-short 12 0 (omega arith) (omega arith),
-      c₁ .put-refusal-line-arg .given .0 .1,
-    )))
+    let c₃ = c .before .before .before in
+    rw (← c₃ .before .before .length-answer .ensures, c₃ .enum-told .given .1) (c .put-listing .ensures)
 
 pub list-input-spec : {M : Type 1} → statement M
 list-input-spec =
     tie.close
     (tie.spec
+    length-answer-requires
+    enum-known-whole
+    put-refusal-line-requires
+    enum-told
     slice-aggregate-put-listing
     put-listing-requires
     returns
-    put-refusal-line-requires
     returns-2)

@@ -1,12 +1,12 @@
--- `listing::keep`. One byte is kept in a turn.
+-- `input::keep`. One byte is kept in a turn.
 use Prim.Native.Nat.{_+_, _-_, _≤_}
 use mathlib.Core.Path.{_≡_, refl}
 use lib.ListN.{length, take, length-set}
 use Rattle.store_listing.specs.Steps.{Written}
 use Rattle.store_listing.proofs.Writing.{word-more, word-all}
 use borrow.Author.Needs.{needs}
-use Rattle.listing.proofs.keep.Statement.{statement}
-use Rattle.listing.proofs.keep.Tie as tie
+use Rattle.input.proofs.keep.Statement.{statement}
+use Rattle.input.proofs.keep.Tie as tie
 
 abbrev Inv-loop : tie.InvT-loop
 Inv-loop buffer₀ from piece i₀ buffer i =

@@ -1,9 +1,9 @@
--- `listing::keep_byte` meets its contract: a store past the end changes nothing.
+-- `input::keep_byte` meets its contract: a store past the end changes nothing.
 use borrow.Author.Needs.{needs}
 use mathlib.Core.Path.{sym}
 use lib.Seq.{set-out}
-use Rattle.listing.proofs.keep_byte.Statement.{statement}
-use Rattle.listing.proofs.keep_byte.Tie as tie
+use Rattle.input.proofs.keep_byte.Statement.{statement}
+use Rattle.input.proofs.keep_byte.Tie as tie
 
 slice-write-buffer : tie.Need-slice-write-buffer
 slice-write-buffer c = search needs

@@ -1,0 +1,2 @@
+-- The law of reading on.
+pub mod Behind

@@ -1,0 +1,2 @@
+-- What reading into a lent buffer promises.
+pub mod Input
