@@ -98,6 +98,9 @@ STORES = {
     "largest": in_order(vertices(S[:3]) + [sphere(k / 8, 100, 1, 5) for k in range(508)]),
     # longer than one read of 4,096 bytes, and the chain begins behind it
     "two_reads": backwards(in_order(vertices(S) + [sphere(k / 8, 100, 1, 5) for k in range(100)])),
+    "bytes_1": bytes(1),
+    "bytes_20481": bytes(20481),
+    "bytes_20521": bytes(20521),
 }
 
 

@@ -6,4 +6,5 @@ pub mod Following
 pub mod Ending
 pub mod Gathering
 pub mod Reading
+pub mod Lengths
 pub mod Sums

@@ -1,16 +1,18 @@
 -- The verdict on a store, part by part: the length, the links, the kinds and the section.
 use Prim.Native.Nat.{ℕ, zero, suc, _*_, _/_, _%_, _<_, _≤_}
 use native.Mathlib.Omega.{arith}
-use mathlib.Core.Bool.{Bool, true, false, _&&_, cond}
-use mathlib.Core.List.{List}
+use mathlib.Core.Bool.{not}
+use mathlib.Core.List.{List, [], _∷_}
 use mathlib.Core.Path.{_≡_, refl, _∙_}
 use lib.ListN.{length}
-use lib.Dec.{eqb, leb}
+use lib.Dec.{T, eqb, ltb, nltb→le}
 use lib.Ieee.{Float}
-use borrow.Author.Tests.{ne-eqb, lt-ltb, le-ltb, eqb-true, leb-true}
-use Rattle.profile.specs.Refusals.{anyOf, listTests, refusal}
+use borrow.Author.Tests.{ne-eqb, lt-ltb, le-ltb}
+use Rattle.profile.specs.Refusals.{_when_, anyOf, listTests, refusal}
+use Rattle.profile.proofs.Each.{All, nil, cons}
+use Rattle.profile.proofs.Refusals.Ordered.{Passes, none-applies}
 use Rattle.profile.proofs.Refusals.Passed.{Counted, list-counted}
-use Rattle.store.specs.Records.{records, rightLength}
+use Rattle.store.specs.Records.{records}
 use Rattle.store.specs.Chain.{Chain, whole, broken, chain, inOrder}
 use Rattle.store.specs.Kinds.{kindsAnswer}
 use Rattle.store.specs.Store.{andThen, lengthAnswer, linksAnswer, vertices, numbered, sectionAnswer, chained, storeAnswer}
@@ -20,28 +22,32 @@ use Rattle.store.specs.declared.answers.StoreAnswer.the-variants.{Accept
 never : {n k : ℕ} → Refused n k ≡ Accepted → ⊥
 never e = let z : _≡_ {A = ℕ} 0 1 = cc in omega arith
 
+none-numbered : (n : ℕ) → numbered n ≡ Accepted → n ≡ 0
+none-numbered zero e = refl
+none-numbered (suc n) e = absurd (never e)
+
 -- an accepted length is that of 1 to 512 records
 pub record Whole (n : ℕ) : Type 0 where
   pub even : n % 40 ≡ 0
   pub some : 1 ≤ n / 40
   pub most : n / 40 ≤ 512
 
-all-three :
-    (a b c : Bool) → cond (a && (b && c)) Accepted (Refused 12 0) ≡ Accepted → (a ≡ true) × (b ≡ true) × (c ≡ true)
-all-three true true true e = (refl, refl, refl)
-all-three true true false e = absurd (never e)
-all-three true false c e = absurd (never e)
-all-three false b c e = absurd (never e)
+some-bytes : (n : ℕ) → T (not (eqb n 0)) → 1 ≤ n
+some-bytes zero h = absurd h
+some-bytes (suc n) h = omega arith
 
 pub length-accepted : (n : ℕ) → lengthAnswer n ≡ Accepted → Whole n
-unfolding lengthAnswer rightLength
-length-accepted n e =
-    let h = all-three (eqb (n % 40) 0) (leb 1 (n / 40)) (leb (n / 40) 512) e in
-    record {
-      even = eqb-true (n % 40) 0 (h .0);
-      some = leb-true 1 (n / 40) (h .1);
-      most = leb-true (n / 40) 512 (h .2);
-    }
+unfolding lengthAnswer
+length-accepted n e = go (none-applies _ tt (none-numbered _ e))
+  where
+    go : All Passes ((12 when ltb 0 (n % 40)) ∷ (15 when eqb n 0) ∷ (16 when ltb 512 (n / 40)) ∷ []) → Whole n
+    go (cons a (cons b (cons c nil))) =
+        let even = nltb→le 0 (n % 40) a in
+        record {
+          even = omega arith;
+          some = omega (arith, some-bytes n b);
+          most = nltb→le 512 (n / 40) c;
+        }
 
 -- the section's number
 pub section-number : {t s : List Float} {n : ℕ} → t ≡ s → n ≡ refusal (listTests 3 256 t) → sectionAnswer s ≡ numbered n
@@ -51,10 +57,6 @@ section-number e h = rw (← e, h)
 pub numbered-refused : (n : ℕ) → (n ≡ 0 → ⊥) → numbered n ≡ Refused n 0
 numbered-refused zero h = absurd (h refl)
 numbered-refused (suc n) h = refl
-
-none-numbered : (n : ℕ) → numbered n ≡ Accepted → n ≡ 0
-none-numbered zero e = refl
-none-numbered (suc n) e = absurd (never e)
 
 -- an accepted section has 3 to 256 vertices
 pub section-accepted : (s : List Float) → sectionAnswer s ≡ Accepted → Counted 3 256 s

@@ -1,19 +1,13 @@
 -- The records of a store: 40 bytes each, next (u32), kind (u32), four f64.
-use Prim.Native.Nat.{ℕ, _+_, _*_, _/_, _%_}
-use mathlib.Core.Bool.{Bool, _&&_}
+use Prim.Native.Nat.{ℕ, _+_, _*_, _/_}
 use mathlib.Core.List.{List}
 use lib.ListN.{length}
-use lib.Dec.{eqb, leb}
 use lib.Ieee.{Float}
 use Rattle.store.specs.Bytes.{u32At, f64At}
 
 -- how many records there are
 abbrev pub records : List ℕ → ℕ
 records b = length b / 40
-
--- a length of 1 to 512 records
-unfoldable pub rightLength : ℕ → Bool
-rightLength n = eqb (n % 40) 0 && (leb 1 (n / 40) && leb (n / 40) 512)
 
 unfoldable pub next : List ℕ → ℕ → ℕ
 next b k = u32At b (k * 40)

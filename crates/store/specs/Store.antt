@@ -1,11 +1,12 @@
--- The verdict on a store: 12, 13 and 14 are tried first, then the section's 2 to 5.
-use Prim.Native.Nat.{ℕ, zero, suc}
+-- The verdict on a store: 12, 15, 16, 13 and 14 are tried first, then the section's 2 to 5.
+use Prim.Native.Nat.{ℕ, zero, suc, _/_, _%_}
 use mathlib.Core.Bool.{cond}
 use mathlib.Core.List.{List, [], _∷_, flatMap}
 use lib.ListN.{length}
+use lib.Dec.{eqb, ltb}
 use lib.Ieee.{Float}
-use Rattle.profile.specs.Refusals.{refusal, listTests}
-use Rattle.store.specs.Records.{rightLength, number}
+use Rattle.profile.specs.Refusals.{_when_, refusal, listTests}
+use Rattle.store.specs.Records.{number}
 use Rattle.store.specs.Chain.{Chain, whole, broken, chain, inOrder}
 use Rattle.store.specs.Kinds.{isVertex, kindsAnswer}
 use Rattle.store.specs.declared.answers.StoreAnswer.{StoreAnswer}
@@ -16,8 +17,14 @@ abbrev pub andThen : StoreAnswer → StoreAnswer → StoreAnswer
 andThen Accepted rest = rest
 andThen (Refused n k) rest = Refused n k
 
+-- a number with K = 0
+abbrev pub numbered : ℕ → StoreAnswer
+numbered zero = Accepted
+numbered (suc n) = Refused (suc n) 0
+
+-- of n bytes: no multiple of 40, none at all, over 512 records
 unfoldable pub lengthAnswer : ℕ → StoreAnswer
-lengthAnswer n = cond (rightLength n) Accepted (Refused 12 0)
+lengthAnswer n = numbered (refusal ((12 when ltb 0 (n % 40)) ∷ (15 when eqb n 0) ∷ (16 when ltb 512 (n / 40)) ∷ []))
 
 -- 13 with the record that holds the bad next
 abbrev pub linksAnswer : Chain → StoreAnswer
@@ -32,11 +39,7 @@ vertexNumbers b k = cond (isVertex b k) (number b k 0 ∷ number b k 1 ∷ []) [
 unfoldable pub vertices : List ℕ → List ℕ → List Float
 vertices b ks = flatMap (vertexNumbers b) ks
 
--- the section's own number, with K = 0; 1 never comes, since each vertex gives two numbers
-abbrev pub numbered : ℕ → StoreAnswer
-numbered zero = Accepted
-numbered (suc n) = Refused (suc n) 0
-
+-- the section's own number; 1 never comes, since each vertex gives two numbers
 unfoldable pub sectionAnswer : List Float → StoreAnswer
 sectionAnswer s = numbered (refusal (listTests 3 256 s))
 
@@ -44,7 +47,7 @@ sectionAnswer s = numbered (refusal (listTests 3 256 s))
 unfoldable pub chained : List ℕ → List ℕ
 chained b = inOrder (chain b)
 
--- 12, 13, 14, then the section's: the whole chain is walked for 13 before any kind is looked at
+-- 12, 15, 16, 13, 14, then the section's: the whole chain is walked for 13 before any kind is looked at
 unfoldable pub storeAnswer : List ℕ → StoreAnswer
 storeAnswer b =
     andThen (lengthAnswer (length b))

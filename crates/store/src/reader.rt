@@ -1,7 +1,6 @@
-// Reading a store: its refusals in their order, 12, 13, 14, then those of its section.
+// Reading a store: its refusals in their order, 12, 15, 16, 13, 14, then those of its section.
 ghost use mathlib.Core.Path.{_≡_};
 ghost use lib.ListN.{length};
-ghost use Rattle.store.specs.Records.{rightLength};
 ghost use Rattle.store.specs.Chain.{chain};
 ghost use Rattle.store.specs.Kinds.{kindsAnswer};
 ghost use Rattle.store.specs.Store.{andThen, lengthAnswer, linksAnswer, chained, vertices, sectionAnswer, storeAnswer};
@@ -13,20 +12,20 @@ use super::kinds::kinds_answer;
 use super::vertices::gather;
 use profile::list_refusal;
 
-fn right_length(n: usize) -> bool
-    ensures { λ r. ⌜ r ≡ rightLength n ⌝ }
-{
-    n % 40 == 0 && (1 <= n / 40 && n / 40 <= 512)
-}
-
 // The verdict on a length alone.
 pub fn length_answer(n: usize) -> StoreAnswer
     ensures { λ r. ⌜ r ≡ lengthAnswer n ⌝ }
 {
-    if right_length(n) {
-        return StoreAnswer::Accepted;
+    if n % 40 > 0 {
+        return StoreAnswer::Refused(12, 0);
     }
-    StoreAnswer::Refused(12, 0)
+    if n == 0 {
+        return StoreAnswer::Refused(15, 0);
+    }
+    if n / 40 > 512 {
+        return StoreAnswer::Refused(16, 0);
+    }
+    StoreAnswer::Accepted
 }
 
 // Fills order with the chained records.

@@ -17,7 +17,7 @@ use Rattle.boxes.specs.Boxes.{boxDistance}
 use Rattle.profile.specs.Refusals.{anyOf, refusal}
 use Rattle.section.specs.Answers.{boxAnswer}
 use Rattle.store.specs.Bytes.{littleEndian}
-use Rattle.store.specs.Records.{rightLength, next, kind, number}
+use Rattle.store.specs.Records.{next, kind, number}
 use Rattle.store.specs.Chain.{follow, chain}
 use Rattle.store.specs.Kinds.{rightKind, kindsAnswer}
 use Rattle.store.specs.Store.{vertices, lengthAnswer, sectionAnswer, storeAnswer, chained}
@@ -47,7 +47,7 @@ pub example-lists : listing example ≡ text "section 4\n5 4014000000000000 4034
 unfolding add sub mul div neg lt le eq ofInt ofBits toBits isFinite hypot upto any closest closestPlaces segments
     surfaceStep surfaceNear crosses pointInside insideAxisEdge inSection pointDistance clipSide clip edgeBox
     strictlyInsideAabb segmentThroughInterior boxGap boxPenetration boxWitness boxHolds resultOf boxDistance anyOf refusal
-    boxAnswer littleEndian rightLength next kind number follow chain rightKind kindsAnswer vertices
+    boxAnswer littleEndian next kind number follow chain rightKind kindsAnswer vertices
     lengthAnswer sectionAnswer storeAnswer chained text decimalAtMost decimal hex bits bodyAnswer fieldText hitText bodyLine sectionLine refusalLine
     acceptedText listing lowBytes recordBytes example flatMap
 example-lists = refl

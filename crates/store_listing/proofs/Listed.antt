@@ -85,3 +85,6 @@ pub refusal-short : (n k : ℕ) → n < 2 ^ 32 → k < 2 ^ 32 → length (refusa
 unfolding refusalLine text
 refusal-short n k hn hk =
     simp length-append (omega (arith, few-digits 9 n (omega arith), few-digits 9 k (omega arith)))
+
+pub line-room : {room : ℕ} (n k : ℕ) → n < 2 ^ 32 → k < 2 ^ 32 → room ≡ 27848 → length (refusalLine n k) ≤ room
+line-room n k hn hk size = omega (arith, refusal-short n k hn hk)

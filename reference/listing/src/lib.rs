@@ -1,5 +1,5 @@
-//! Document 01's store and its listing, written from 01's text. Distances are those of the published Rust with the
-//! exact hypot; refusal numbers are those of the table.
+//! Document 01's store and its listing, written from 01's text, with 02's numbers for a length. Distances are those of
+//! the published Rust with the exact hypot; refusal numbers are those of the table.
 
 pub mod stores;
 
@@ -35,8 +35,14 @@ pub fn listing(store: &[u8]) -> String {
 }
 
 fn accepted(store: &[u8]) -> Result<String, Refusal> {
-    if store.is_empty() || !store.len().is_multiple_of(RECORD) || store.len() > MOST_RECORDS * RECORD {
+    if !store.len().is_multiple_of(RECORD) {
         return Err((12, 0));
+    }
+    if store.is_empty() {
+        return Err((15, 0));
+    }
+    if store.len() > MOST_RECORDS * RECORD {
+        return Err((16, 0));
     }
     let records: Vec<Record> = store.chunks(RECORD).map(record).collect();
     let chain = chain(&records)?;
@@ -114,12 +120,15 @@ mod tests {
 
     #[test]
     fn refusals() {
-        assert_eq!(listing(&[]), "refused 12 at 0\n");
+        assert_eq!(listing(&[]), "refused 15 at 0\n");
+        assert_eq!(listing(&[0; 1]), "refused 12 at 0\n");
         assert_eq!(listing(&[0; 39]), "refused 12 at 0\n");
         assert_eq!(listing(&[0; 40]), "refused 2 at 0\n");
         assert_eq!(listing(&[0; 41]), "refused 12 at 0\n");
         assert_eq!(listing(&[0; 20_480]), "refused 2 at 0\n");
-        assert_eq!(listing(&[0; 20_520]), "refused 12 at 0\n");
+        assert_eq!(listing(&[0; 20_481]), "refused 12 at 0\n");
+        assert_eq!(listing(&[0; 20_520]), "refused 16 at 0\n");
+        assert_eq!(listing(&[0; 20_521]), "refused 12 at 0\n");
         assert_eq!(listing(&store(&[(1, 0, [0.0; 4]), (9, 1, [0.0; 4])])), "refused 13 at 1\n");
         assert_eq!(listing(&store(&[(1, 0, [0.0; 4]), (1, 7, [0.0; 4])])), "refused 13 at 1\n");
         assert_eq!(listing(&store(&[(1, 1, [0.0; 4]), (0, 7, [0.0; 4])])), "refused 14 at 0\n");

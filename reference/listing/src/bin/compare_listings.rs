@@ -28,7 +28,7 @@ fn run(program: &str, store: &[u8], piece: usize) -> Vec<u8> {
 /// 01's example, its lengths, every single-bit flip of the example, and the largest listing.
 fn named() -> Vec<Vec<u8>> {
     let mut stores = vec![example(), Vec::new()];
-    for length in [39, 40, 41, 20_480, 20_520, 20_481, 100_000] {
+    for length in [1, 39, 40, 41, 80, 20_440, 20_479, 20_480, 20_481, 20_519, 20_520, 20_521, 100_000, 100_001] {
         stores.push(vec![0; length]);
     }
     let small = in_order(&S, &[(2, [0.0, 0.0, 30.0, 4.0])]);

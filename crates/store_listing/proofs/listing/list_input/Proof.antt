@@ -4,7 +4,7 @@ use mathlib.Core.Path.{sym, _∙_}
 use lib.ListN.{length-take}
 use Rattle.store_listing.specs.Listing.{inputListing, listing}
 use Rattle.store_listing.proofs.Inputs.{length-fits}
-use Rattle.store_listing.proofs.Listed.{refusal-short}
+use Rattle.store_listing.proofs.Listed.{line-room}
 use Rattle.store_listing.proofs.Writing.{front-written}
 use borrow.Author.Needs.{needs}
 use Rattle.store_listing.proofs.listing.list_input.Statement.{statement}
@@ -17,13 +17,7 @@ enum-known-whole : tie.Need-enum-known-whole
 enum-known-whole c = search needs
 
 put-refusal-line-requires : tie.Need-put-refusal-line-requires
-put-refusal-line-requires c κs =
-    let told = c .before .before .whole .given .0 in
-    omega (
-      arith,
-      refusal-short (told .0) (told .1 .0) (search needs) (search needs),
-      c .put-refusal-line-arg .given .0 .1,
-    )
+put-refusal-line-requires c κs = line-room _ _ (search needs) (search needs) (c .put-refusal-line-arg .given .0 .1)
 
 enum-told : tie.Need-enum-told
 enum-told c = search needs
@@ -45,12 +39,8 @@ returns : tie.Need-returns
 unfolding inputListing
 returns c =
     let c₃ = c .before .before .before in
-    let told = c₃ .whole .given .0 in
-    rw (← c₃ .before .before .length-answer .ensures, c₃ .whole .given .1) (front-written (c .put-refusal-line .ensures) (omega (
-      arith,
-      refusal-short (told .0) (told .1 .0) (search needs) (search needs),
-      c .before .put-refusal-line-arg .given .0 .1,
-    )))
+    rw (← c₃ .before .before .length-answer .ensures, c₃ .whole .given .1) (front-written (c .put-refusal-line .ensures)
+    (line-room _ _ (search needs) (search needs) (c .before .put-refusal-line-arg .given .0 .1)))
 
 returns-2 : tie.Need-returns-2
 unfolding inputListing listing

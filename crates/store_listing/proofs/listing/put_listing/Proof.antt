@@ -1,9 +1,8 @@
 -- `store_listing::listing::put_listing`. The listing as list_store put it, or the line of its refusal on the text as it was.
-use native.Mathlib.Omega.{arith}
 use mathlib.Core.Path.{sym, _∙_}
 use Rattle.store.specs.Store.{storeAnswer}
 use Rattle.store_listing.specs.Listing.{listing}
-use Rattle.store_listing.proofs.Listed.{listed-front, refused-front, refusal-short}
+use Rattle.store_listing.proofs.Listed.{listed-front, refused-front, line-room}
 use borrow.Author.Needs.{needs}
 use Rattle.store_listing.proofs.listing.put_listing.Statement.{statement}
 use Rattle.store_listing.proofs.listing.put_listing.Tie as tie
@@ -18,13 +17,7 @@ enum-known-answer-2 : tie.Need-enum-known-answer-2
 enum-known-answer-2 c = search needs
 
 put-refusal-line-requires : tie.Need-put-refusal-line-requires
-put-refusal-line-requires c κs =
-    let c₂ = c .before .before in
-    omega (
-      arith,
-      refusal-short (c₂ .answer2 .given .0 .0) (c₂ .answer2 .given .0 .1 .0) (search needs) (search needs),
-      c .put-refusal-line-arg .given .0 .1,
-    )
+put-refusal-line-requires c κs = line-room _ _ (search needs) (search needs) (c .put-refusal-line-arg .given .0 .1)
 
 returns : tie.Need-returns
 returns c =
@@ -37,11 +30,8 @@ returns-2 : tie.Need-returns-2
 returns-2 c =
     let c₃ = c .before .before .before in
     let c₅ = c₃ .before .before in
-    refused-front _ _ (sym (c₃ .answer2 .given .1) ∙ c₅ .list-store .ensures .answer) (c₅ .list-store .ensures .buffer) (omega (
-      arith,
-      refusal-short (c₃ .answer2 .given .0 .0) (c₃ .answer2 .given .0 .1 .0) (search needs) (search needs),
-      c .before .put-refusal-line-arg .given .0 .1,
-    )) (c .put-refusal-line .ensures)
+    refused-front _ _ (sym (c₃ .answer2 .given .1) ∙ c₅ .list-store .ensures .answer) (c₅ .list-store .ensures .buffer)
+    (line-room _ _ (search needs) (search needs) (c .before .put-refusal-line-arg .given .0 .1)) (c .put-refusal-line .ensures)
 
 pub put-listing-spec : {M : Type 1} → statement M
 put-listing-spec =
