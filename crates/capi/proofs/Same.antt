@@ -6,8 +6,8 @@ use lib.Ieee.{Float}
 use Rattle.profile.specs.Replies.{Reply, value, OfValue, Answers}
 use Rattle.bands.specs.declared.shapes.Cylinder.{Cylinder}
 use Rattle.walk.specs.declared.shapes.CountedHit.{CountedHit}
-use Rattle.cylinders.specs.Promised.{Promised}
-use Rattle.capi.specs.Interface.{Gives, Measures, Places, Counts, CylinderPlaces, Few}
+use Rattle.cylinders.specs.Promised.{Few, Promised}
+use Rattle.capi.specs.Interface.{Gives, Measures, Places, Counts, CylinderPlaces}
 use Rattle.capi.specs.Interface.{hitPlaces, hitCounts, cylinderPlaces, both}
 
 module _ {A B : Type 0} {fields : A → B} {a b : Reply A} {n : ℕ} {held end : B} where
@@ -26,6 +26,4 @@ walked e g k = gives (sym e) (record { returned = g .returned; lent = rw (g .len
 -- what a cylinder query promises of its counts
 pub few : (s : List Float) (c : Cylinder) {a : Reply CountedHit} {h : CountedHit} → a ≡ value h → OfValue (Promised s c) a
     → Few h
-few s c e p =
-    let q = subst (λ (x : Reply CountedHit). OfValue (Promised s c) x) e p in
-    record { boxes = q .boxes; waiting = q .waiting }
+few s c e p = let q = subst (λ (x : Reply CountedHit). OfValue (Promised s c) x) e p in q .few

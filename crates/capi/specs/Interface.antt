@@ -1,6 +1,6 @@
 -- What a C caller gets, said once over what a call answers: the returned number, 0 for a value, and in the lent places the fields of
 -- the value. Where the call is turned down they hold what they held.
-use Prim.Native.Nat.{ℕ, _≤_}
+use Prim.Native.Nat.{ℕ}
 use mathlib.Core.Bool.{Bool, true, false}
 use mathlib.Core.Path.{_≡_}
 use mathlib.Core.List.{List}
@@ -75,8 +75,3 @@ both p c = record { hit = p; counts = c }
 
 abbrev pub cylinderPlaces : CountedHit → CylinderPlaces
 cylinderPlaces h = both (hitPlaces (h .hit)) (hitCounts h)
-
--- counts that a u32 holds
-pub record Few (h : CountedHit) : Type 0 where
-  pub boxes : h .boxes ≤ 8192
-  pub waiting : h .waiting ≤ 54

@@ -2,9 +2,9 @@
 ghost use mathlib.Core.Path.{_≡_};
 ghost use Rattle.arith.specs.Vector.{vec};
 ghost use Rattle.cylinders.specs.Cylinders.{cylinderAnswer};
-ghost use Rattle.cylinders.specs.Promised.{Promised};
+ghost use Rattle.cylinders.specs.Promised.{Few, Promised};
 ghost use Rattle.bands.specs.Band.{bar};
-ghost use Rattle.capi.specs.Interface.{Measures, Few, places, counts, both, mark, hitCounts, cylinderPlaces};
+ghost use Rattle.capi.specs.Interface.{Measures, places, counts, both, mark, hitCounts, cylinderPlaces};
 use super::distances::give;
 use arith::Vec3;
 use bands::Cylinder;

@@ -1,5 +1,5 @@
 -- What every cylinder query promises of its answer: demands 1 and 3.
-use Prim.Native.Nat.{_≤_, zero-le}
+use Prim.Native.Nat.{zero-le}
 use mathlib.Core.List.{List, []}
 use mathlib.Core.Path.{_≡_, refl}
 use lib.Dec.{lit≤}
@@ -11,7 +11,7 @@ use Rattle.profile.proofs.Steps.{pick}
 use Rattle.bands.specs.Axis.{axis}
 use Rattle.bands.specs.Band.{axialBox, bandOf}
 use Rattle.walk.specs.Walk.{bandDistance, oneBox, thinBox, walkAll, walked}
-use Rattle.cylinders.specs.Promised.{Promised}
+use Rattle.cylinders.specs.Promised.{Few, Promised}
 use Rattle.cylinders.specs.Steps.{Each, IsF64}
 use Rattle.profile.specs.Refusals.{refusal}
 use Rattle.profile.specs.Replies.{OfValue}
@@ -20,12 +20,8 @@ use Rattle.cylinders.specs.Cylinders.{cylinderAnswer, cylinderDistance, 
 use Rattle.bands.specs.declared.shapes.Axis.{Axis}
 use Rattle.bands.specs.declared.shapes.Axis.the-variants.{Axial, Neither, Radial}
 use Rattle.bands.specs.declared.shapes.Cylinder.{Cylinder}
-use Rattle.walk.specs.declared.shapes.CountedHit.{CountedHit}
 use Rattle.cylinders.proofs.Cover.Across.{across, walk-covers}
 use Rattle.cylinders.proofs.Demand.Cylinders.{cylinder-bounded}
-
-abbrev Few : CountedHit → Type 0
-Few h = (h .boxes ≤ 8192) × (h .waiting ≤ 54)
 
 -- the counts of a hit: one box, or those of the walk, which covers
 few : (s : List Float) (c : Cylinder) → Each IsF64 (cylinderNumbers c) → refusal (cylinderTests s c []) ≡ 0 → Few (cylinderDistance s c)
@@ -33,10 +29,10 @@ unfolding cylinderDistance bandDistance
 few s c f e = by (axis c) refl
   where
     one : (h : CollisionHit) → Few (oneBox h)
-    one h = (lit≤ tt, zero-le)
+    one h = record { boxes = lit≤ tt; waiting = zero-le }
 
     walk-few : Few (walked (walkAll s (bandOf c) e-9 8192 16))
-    walk-few = let w = walk-covers s c [] f e in (w .boxes, w .room)
+    walk-few = let w = walk-covers s c [] f e in record { boxes = w .boxes; waiting = w .room }
 
     by : (a : Axis) → axis c ≡ a → Few (cylinderDistance s c)
     by Axial i = rw i (one (boxDistance s (axialBox c)))
@@ -49,7 +45,6 @@ promised s c f =
     of-reply (Promised s c) (refusal (cylinderTests s c [])) (cylinderDistance s c)
     (λ e. record {
       bounded = cylinder-bounded s c [] e;
-      boxes = few s c f e .0;
-      waiting = few s c f e .1;
+      few = few s c f e;
       across = across s c [] f e;
     })

@@ -19,9 +19,13 @@ pub record Across (s : List Float) (c : Cylinder) (h : CountedHit) : Type 0 wher
   pub walk : h ≡ walked (walkAll s (bandOf c) e-9 8192 16)
   pub covers : Covers s (bandOf c) e-9 8192 16 (walkAll s (bandOf c) e-9 8192 16)
 
+-- counts within their limits
+pub record Few (h : CountedHit) : Type 0 where
+  pub boxes : h .boxes ≤ 8192
+  pub waiting : h .waiting ≤ 54
+
 -- Demands 1 and 3 of a hit: always finite, also beside a section on the axis only; counts within their limits
 pub record Promised (s : List Float) (c : Cylinder) (h : CountedHit) : Type 0 where
   pub bounded : Bounded (h .hit)
-  pub boxes : h .boxes ≤ 8192
-  pub waiting : h .waiting ≤ 54
+  pub few : Few h
   pub across : axis c ≡ Radial → T (e-15 ≺ c .radius) → Across s c h
