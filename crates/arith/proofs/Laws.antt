@@ -13,6 +13,7 @@ pub mod Sizes
 pub mod SizedOrder
 pub mod Quotients
 pub mod Intervals
+pub mod Reciprocal
 pub mod RootKey
 pub mod NearestRoot
 pub mod RootBounded

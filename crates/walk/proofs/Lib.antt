@@ -2,5 +2,6 @@
 pub mod Cover
 pub mod Demand
 pub mod Exact
+pub mod Sixteenths
 pub mod Stored
 pub mod Loop

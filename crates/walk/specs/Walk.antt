@@ -33,11 +33,13 @@ sampleVertex b z j =
     choose (suc zero) x y z = y
     choose (suc (suc j)) x y z = z
 
+-- i/n, rounded
+abbrev pub fraction : ℕ → ℕ → Float
+fraction i n = ofInt binary64 (pos i) ⊘ ofInt binary64 (pos n)
+
 -- z of sample i of n + 1: z0 + (z1 - z0)·(i/n)
 abbrev pub sampleZ : RadialBand → ℕ → ℕ → Float
-sampleZ b n i =
-    let w = wholeWidth b in
-    w .z0 ⊕ (w .z1 ⊖ w .z0) ⊗ (ofInt binary64 (pos i) ⊘ ofInt binary64 (pos n))
+sampleZ b n i = let w = wholeWidth b in w .z0 ⊕ (w .z1 ⊖ w .z0) ⊗ fraction i n
 
 -- ---- the walk
 

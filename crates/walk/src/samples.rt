@@ -23,13 +23,24 @@ fn sample_at(s: &[f64], b: RadialBand, z: f64, best: CollisionHit) -> CollisionH
     nearer_of(greatest, signed_distance_2d(s, Vertex { z, r: mean }))
 }
 
+// i/n, rounded: at 16 intervals without dividing.
+fn fraction(i: usize, n: usize) -> f64
+    requires { ⌜ (n ≤ 64) × (i ≤ n) ⌝ }
+    ensures { λ r. ⌜ r ≡ walk.fraction i n ⌝ }
+{
+    if n == 16 {
+        return i as f64 * 0.0625;
+    }
+    i as f64 / n as f64
+}
+
 // z of sample i of n + 1.
 fn sample_z(b: RadialBand, n: usize, i: usize) -> f64
     requires { ⌜ (n ≤ 64) × (i ≤ n) ⌝ }
     ensures { λ r. ⌜ r ≡ walk.sampleZ b n i ⌝ }
 {
     let width = whole_width(b);
-    width.z0 + (width.z1 - width.z0) * (i as f64 / n as f64)
+    width.z0 + (width.z1 - width.z0) * fraction(i, n)
 }
 
 // The best of the samples at n + 1 values of z.
