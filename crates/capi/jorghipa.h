@@ -63,7 +63,7 @@ uint32_t jorghipa_build_section(const double *points, size_t points_count, doubl
 uint32_t jorghipa_build_polygon(const double *points, size_t points_count, double *space, size_t space_count,
                                 size_t *kept);
 
-/* Distance of the flat-capped cylinder from a to b, along the spindle (z) or across it (x). *boxes counts the boxes
+/* Distance of the flat-capped cylinder from a to b, along the spindle (z) or across it (x or y). *boxes counts the boxes
  * that were measured, *waiting the most pieces that waited at any one time; *cut is 1 where the walk stopped at
  * 8,192 boxes with a piece still due, and then the distance is the least of the boxes'. Numbers 1 to 5, 9, 11. */
 uint32_t jorghipa_cylinder(const double *section, size_t section_count, double ax, double ay, double az, double bx,

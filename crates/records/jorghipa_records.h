@@ -37,7 +37,7 @@ typedef struct {
     double z0, z1, r0, r1;
 } jorghipa_bounds;
 
-/* A flat-capped cylinder from a to b, along the spindle (z) or across it (x). */
+/* A flat-capped cylinder from a to b, along the spindle (z) or across it (x or y). */
 typedef struct {
     double ax, ay, az, bx, by, bz, radius;
 } jorghipa_bar;

@@ -2,7 +2,7 @@
 
 use crate::{Hit, Point, Refusal, distances, raw};
 
-/// A flat-capped cylinder along the spindle (z) or across it (x); a and b are the centres of its caps.
+/// A flat-capped cylinder along the spindle (z) or across it (x or y); a and b are the centres of its caps.
 #[derive(Clone, Copy, Debug, PartialEq)]
 pub struct Cylinder {
     pub a: Point,

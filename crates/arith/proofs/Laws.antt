@@ -28,3 +28,4 @@ pub mod HypotCorner
 pub mod Sqrt
 pub mod Constants
 pub mod Upright
+pub mod UnitLegs

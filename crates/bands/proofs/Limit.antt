@@ -4,7 +4,9 @@ use lib.Dec.{T}
 use lib.Ieee.{Float}
 use Rattle.arith.specs.F64.{_≺_, 𝟘}
 use Rattle.arith.proofs.Laws.Sizes.{Finite, Given, add-given, half-finite, max-keeps, min-keeps}
-use Rattle.bands.specs.Band.{bandOf, mean}
+use Rattle.bands.specs.Band.{bandOf, exchanged, mean, measuredAs}
+use Rattle.bands.specs.declared.shapes.Axis.{Axis}
+use Rattle.bands.specs.declared.shapes.Axis.the-variants.{Axial, AlongX, AlongY, Neither}
 use Rattle.bands.specs.declared.shapes.Cylinder.{Cylinder}
 use Rattle.bands.specs.declared.shapes.RadialBand.{RadialBand}
 
@@ -41,3 +43,30 @@ bandOf-in-limit C =
       radius = C .radius;
       solid = C .solid;
     }
+
+-- ---- the cylinder that one along Y is measured as
+exchanged-in-limit : {c : Cylinder} → CylinderInLimit c → CylinderInLimit (exchanged c)
+exchanged-in-limit C =
+    record {
+      ax = C .ay;
+      ay = C .ax;
+      az = C .az;
+      bx = C .by;
+      by = C .bx;
+      bz = C .bz;
+      radius = C .radius;
+      solid = C .solid;
+    }
+
+pub measuredAs-in-limit : (a : Axis) {c : Cylinder} → CylinderInLimit c → CylinderInLimit (measuredAs a c)
+measuredAs-in-limit Axial C = C
+measuredAs-in-limit AlongX C = C
+measuredAs-in-limit AlongY C = exchanged-in-limit C
+measuredAs-in-limit Neither C = C
+
+pub measuredAs-radius : (P : Float → Type 0) (a : Axis) (c : Cylinder) → P (c .radius) → P (bandOf (measuredAs a c) .radius)
+unfolding bandOf
+measuredAs-radius P Axial c h = h
+measuredAs-radius P AlongX c h = h
+measuredAs-radius P AlongY c h = h
+measuredAs-radius P Neither c h = h

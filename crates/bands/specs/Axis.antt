@@ -1,13 +1,12 @@
--- 01's axis test.
+-- 01's axis test, with 02's third direction.
 use mathlib.Core.Bool.{_&&_, cond}
-use lib.Ieee.{Float}
 use Rattle.arith.specs.F64.{_⊖_, _⊘_, _≼_, 𝟘, 𝟙, e-8}
 use Rattle.arith.specs.Num.{abs}
 use Rattle.arith.specs.Vector.{vec, subtract, scaleBy, norm}
 use Rattle.arith.specs.declared.vector.Vec3.{Vec3}
 use Rattle.bands.specs.declared.shapes.Cylinder.{Cylinder}
 use Rattle.bands.specs.declared.shapes.Axis.{Axis}
-use Rattle.bands.specs.declared.shapes.Axis.the-variants.{Axial, Radial, Neither}
+use Rattle.bands.specs.declared.shapes.Axis.the-variants.{Axial, AlongX, AlongY, Neither}
 
 -- 01's `axis_dir` divides by length, by its reciprocal; length 0 counts as along z
 unfoldable pub axisDir : Cylinder → Vec3
@@ -16,9 +15,11 @@ axisDir c =
     let l = norm d in
     cond (l ≼ 𝟘) (vec 𝟘 𝟘 𝟙) (scaleBy d (𝟙 ⊘ l))
 
--- |dir z| ≥ 1 - 1e-8 is axial; |dir z| ≤ 1e-8 with |dir x| ≥ 1 - 1e-8 is radial
+-- |dir z| ≥ 1 - 1e-8 is axial; |dir z| ≤ 1e-8 with |dir x| ≥ 1 - 1e-8 is radial along X, with |dir y| ≥ 1 - 1e-8 along Y
 unfoldable pub axis : Cylinder → Axis
 axis c =
     let d = axisDir c in
     let most = 𝟙 ⊖ e-8 in
-    cond (most ≼ abs (d .z)) Axial (cond ((abs (d .z) ≼ e-8) && (most ≼ abs (d .x))) Radial Neither)
+    cond (most ≼ abs (d .z)) Axial
+    (cond ((abs (d .z) ≼ e-8) && (most ≼ abs (d .x))) AlongX
+    (cond ((abs (d .z) ≼ e-8) && (most ≼ abs (d .y))) AlongY Neither))

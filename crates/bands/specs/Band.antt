@@ -3,9 +3,12 @@ use mathlib.Core.Bool.{cond}
 use lib.Ieee.{Float, binary64}
 use Rattle.arith.specs.F64.{_⊕_, _⊖_, _⊗_, _≺_, _≼_, 𝟘, ½}
 use Rattle.arith.specs.Num.{min, max}
+use Rattle.arith.specs.Vector.{vec}
 use Rattle.roots.specs.Roots.{sqrt, hypot}
 use Rattle.arith.specs.declared.vector.Vec3.{Vec3}
 use Rattle.profile.specs.declared.shapes.Aabb.{Aabb}
+use Rattle.bands.specs.declared.shapes.Axis.{Axis}
+use Rattle.bands.specs.declared.shapes.Axis.the-variants.{Axial, AlongX, AlongY, Neither}
 use Rattle.bands.specs.declared.shapes.Cylinder.{Cylinder}
 use Rattle.bands.specs.declared.shapes.RadialBand.{RadialBand}
 use Rattle.bands.specs.declared.shapes.Span.{Span}
@@ -27,7 +30,7 @@ axialBox c =
       r1 = r ⊕ c .radius;
     }
 
--- radial: x0, x1 are the sorted ends; yc, zc the means
+-- radial along X: x0, x1 are the sorted ends; yc, zc the means
 unfoldable pub bandOf : Cylinder → RadialBand
 bandOf c =
     record {
@@ -37,6 +40,20 @@ bandOf c =
       zc = mean (c .a .z) (c .b .z);
       radius = c .radius;
     }
+
+abbrev pub exchange : Vec3 → Vec3
+exchange p = vec (p .y) (p .x) (p .z)
+
+-- the same cylinder with x and y exchanged
+abbrev pub exchanged : Cylinder → Cylinder
+exchanged c = bar (exchange (c .a)) (exchange (c .b)) (c .radius)
+
+-- across the spindle: a cylinder along Y is measured as the radial one with x and y exchanged
+abbrev pub measuredAs : Axis → Cylinder → Cylinder
+measuredAs Axial c = c
+measuredAs AlongX c = c
+measuredAs AlongY c = exchanged c
+measuredAs Neither c = c
 
 -- 0, or the root of radius² - (z - zc)²
 unfoldable pub halfWidth : RadialBand → Float → Float

@@ -42,9 +42,13 @@ pub fn axis_of(c: Cylinder) -> Axis
         return Axis::Axial;
     }
     let x = arith::abs(dir.x);
+    let y = arith::abs(dir.y);
     if z <= 1e-8 {
         if x >= most {
-            return Axis::Radial;
+            return Axis::AlongX;
+        }
+        if y >= most {
+            return Axis::AlongY;
         }
     }
     Axis::Neither

@@ -1,13 +1,15 @@
-// The box of a cylinder along the spindle, and the band of one across it: half width and span.
+// The box of a cylinder along the spindle, and the band of one across it, along X: half width and span.
 ghost use mathlib.Core.Path.{_≡_};
 ghost use mathlib.Core.Bool.{cond};
 ghost use lib.Ieee.{neg};
 ghost use Rattle.arith.specs.F64.{_≼_};
 ghost use Rattle.arith.specs.Num.{min, clamp};
+ghost use Rattle.bands.specs.Band as band;
 ghost use Rattle.bands.specs.Band.{axialBox, bandOf, halfWidth, radiusSpan, span, spanAt, closestToZero};
 use super::shapes::Cylinder;
 use super::shapes::RadialBand;
 use super::shapes::Span;
+use arith::Vec3;
 use profile::Aabb;
 
 pub fn axial_box(c: Cylinder) -> Aabb
@@ -22,6 +24,29 @@ pub fn axial_box(c: Cylinder) -> Aabb
         z1: arith::max(a.z, b.z),
         r0: arith::max(r - radius, 0.0),
         r1: r + radius,
+    }
+}
+
+fn exchange(p: Vec3) -> Vec3
+    ensures { λ r. ⌜ r ≡ band.exchange p ⌝ }
+{
+    Vec3 {
+        x: p.y,
+        y: p.x,
+        z: p.z,
+    }
+}
+
+// The same cylinder with x and y exchanged.
+pub fn exchanged(c: Cylinder) -> Cylinder
+    ensures { λ r. ⌜ r ≡ band.exchanged c ⌝ }
+{
+    let a = c.a;
+    let b = c.b;
+    Cylinder {
+        a: exchange(a),
+        b: exchange(b),
+        radius: c.radius,
     }
 }
 

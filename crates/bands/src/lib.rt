@@ -5,6 +5,7 @@ mod shapes;
 
 pub use axis::axis_of;
 pub use band::axial_box;
+pub use band::exchanged;
 pub use shapes::Axis;
 pub use shapes::Cylinder;
 pub use shapes::RadialBand;

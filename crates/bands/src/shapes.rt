@@ -26,6 +26,7 @@ pub struct Span {
 // The direction of a cylinder's axis, as far as it is told apart.
 pub enum Axis {
     Axial,
-    Radial,
+    AlongX,
+    AlongY,
     Neither,
 }

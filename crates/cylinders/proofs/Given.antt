@@ -35,5 +35,5 @@ measurable {s} {c} {a} {extra} e k z =
     record {
       along = e;
       long = section-long s _ (cylinderOwn (c .radius) (axis c)) tt passed;
-      room = walk-covers s c extra (k .f64s) passed .room;
+      room = walk-covers s c extra (k .f64s) passed a .room;
     }

@@ -4,3 +4,4 @@ pub mod Demand
 pub mod Promise
 pub mod Given
 pub mod Lowest
+pub mod Exchanged

@@ -6,11 +6,11 @@ use Rattle.profile.specs.Refusals.{Test, _when_, refusal, pointNumbers, radiusT
 use Rattle.profile.specs.Replies.{Reply, value, turned-down, reply}
 use Rattle.boxes.specs.Boxes.{boxDistance}
 use Rattle.bands.specs.Axis.{axis}
-use Rattle.bands.specs.Band.{axialBox, bandOf}
+use Rattle.bands.specs.Band.{axialBox, bandOf, exchanged}
 use Rattle.walk.specs.Walk.{oneBox, bandDistance}
 use Rattle.bands.specs.declared.shapes.Cylinder.{Cylinder}
 use Rattle.bands.specs.declared.shapes.Axis.{Axis}
-use Rattle.bands.specs.declared.shapes.Axis.the-variants.{Axial, Radial, Neither}
+use Rattle.bands.specs.declared.shapes.Axis.the-variants.{Axial, AlongX, AlongY, Neither}
 use Rattle.walk.specs.declared.shapes.CountedHit.{CountedHit}
 use Rattle.cylinders.specs.declared.shapes.CountedAnswer.{CountedAnswer}
 use Rattle.cylinders.specs.declared.shapes.CountedAnswer.the-variants.{Hit, Refused}
@@ -22,7 +22,8 @@ told (Refused n) = turned-down n
 
 abbrev pub neither : Axis → Bool
 neither Axial = false
-neither Radial = false
+neither AlongX = false
+neither AlongY = false
 neither Neither = true
 
 abbrev pub cylinderNumbers : Cylinder → List Float
@@ -35,13 +36,14 @@ cylinderOwn radius axis = radiusTests radius ++ ((11 when neither axis) ∷ [])
 abbrev pub cylinderTests : List Float → Cylinder → List Float → List Test
 cylinderTests s c extra = besideTests s (cylinderNumbers c) extra (cylinderOwn (c .radius) (axis c))
 
--- by the axis; what is neither axial nor radial is turned down
+-- by the axis; one along Y is measured as the radial one with x and y exchanged; what is neither axial nor radial is turned down
 unfoldable pub cylinderDistance : List Float → Cylinder → CountedHit
 cylinderDistance s c = by (axis c)
   where
     by : Axis → CountedHit
     by Axial = oneBox (boxDistance s (axialBox c))
-    by Radial = bandDistance s (bandOf c)
+    by AlongX = bandDistance s (bandOf c)
+    by AlongY = bandDistance s (bandOf (exchanged c))
     by Neither = oneBox (boxDistance s (axialBox c))
 
 unfoldable pub cylinderAnswer : List Float → Cylinder → Reply CountedHit

@@ -7,7 +7,7 @@ use lib.Ieee.{Float, binary64, fits}
 use Rattle.profile.specs.Vertices.{count}
 use Rattle.profile.specs.Refusals.{refusal}
 use Rattle.bands.specs.Axis.{axis}
-use Rattle.bands.specs.Band.{bandOf}
+use Rattle.bands.specs.Band.{bandOf, measuredAs}
 use Rattle.walk.specs.Steps.{BandRoom}
 use Rattle.bands.specs.declared.shapes.Axis.{Axis}
 use Rattle.bands.specs.declared.shapes.Cylinder.{Cylinder}
@@ -29,4 +29,4 @@ pub record Checked (s : List Float) (c : Cylinder) (extra : List Float) (r : ℕ
 pub record Measurable (s : List Float) (c : Cylinder) (a : Axis) : Type 0 where
   pub along : a ≡ axis c
   pub long : 3 ≤ count s
-  pub room : BandRoom s (bandOf c)
+  pub room : BandRoom s (bandOf (measuredAs a c))

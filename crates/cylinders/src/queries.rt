@@ -17,6 +17,7 @@ use bands::Cylinder;
 use bands::RadialBand;
 use bands::axial_box;
 use bands::axis_of;
+use bands::exchanged;
 use walk::CountedHit;
 use walk::band_distance;
 use walk::one_box;
@@ -41,7 +42,8 @@ pub fn cylinder_distance(s: &[f64], c: Cylinder, axis: Axis) -> CountedHit
 {
     match axis {
         Axis::Axial => query_axial(s, c),
-        Axis::Radial => query_radial(s, c),
+        Axis::AlongX => query_radial(s, c),
+        Axis::AlongY => query_radial(s, exchanged(c)),
         Axis::Neither => query_axial(s, c),
     }
 }

@@ -17,7 +17,8 @@ fn own_refusal(radius: f64, axis: Axis) -> u32
     }
     match axis {
         Axis::Axial => 0,
-        Axis::Radial => 0,
+        Axis::AlongX => 0,
+        Axis::AlongY => 0,
         Axis::Neither => 11,
     }
 }

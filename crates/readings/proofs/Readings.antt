@@ -109,6 +109,9 @@ readings =
     ∷ cylinder (bar (at 12 0 10) (at 30 0 10) thin) (walks (mm 2) nearly10 (mm 10) 1 1)
     ∷ keeps (mm 0 ∷ mm 0 ∷ mm 20 ∷ mm 0 ∷ []) (mm 0 ∷ mm 0 ∷ mm 20 ∷ mm 0 ∷ mm 0 ∷ mm 0 ∷ [])
     ∷ everywhere (mm 0 ∷ mm 0 ∷ mm 20 ∷ mm 0 ∷ []) ∞
+    -- along Y, as the exchanged ones along X
+    ∷ cylinder (bar (at 0 12 10) (at 0 30 10) (mm 0)) (walks (mm 2) (mm 10) (mm 10) 1 0)
+    ∷ cylinder (bar (at 0 12 10) (at 0 30 10) thin) (walks (mm 2) nearly10 (mm 10) 1 1)
     -- numbers 1 to 11
     ∷ section (mm 0 ∷ mm 10 ∷ mm 20 ∷ []) (room 8) (turned-down 1)
     ∷ section (mm 0 ∷ mm 10 ∷ []) (room 8) (turned-down 2)
@@ -121,6 +124,7 @@ readings =
     ∷ sphere (ball (at 0 0 0) (neg (mm 1))) (turned-down 9)
     ∷ box (aabb (mm 5) (mm 4) (mm 0) (mm 5)) (turned-down 10)
     ∷ cylinder (bar (at 0 0 0) (at 1 0 1) (mm 1)) (turned-down 11)
+    ∷ cylinder (bar (at 0 0 0) (at 1 1 0) (mm 1)) (turned-down 11)
     -- the limit is taken, and a radius of -1e-9 is taken as 0
     ∷ section (mm 1048576 ∷ mm 10 ∷ mm 20 ∷ mm 10 ∷ []) (room 8) (value 8)
     ∷ keeps (mm 0 ∷ neg e-9 ∷ mm 20 ∷ mm 10 ∷ []) (mm 0 ∷ mm 0 ∷ mm 20 ∷ mm 10 ∷ mm 20 ∷ mm 0 ∷ mm 0 ∷ mm 0 ∷ [])
@@ -139,4 +143,4 @@ all-readings =
     let all-points : Holds (everywhere (mm 0 ∷ mm 0 ∷ mm 20 ∷ mm 0 ∷ []) ∞) = λ p. refl in
     refl and refl and refl and refl and refl and refl and refl and refl and refl and refl and refl and refl
     and refl and all-points and refl and refl and refl and refl and refl and refl and refl and refl and refl
-    and refl and refl and refl and refl and end
+    and refl and refl and refl and refl and refl and refl and refl and end

@@ -105,7 +105,15 @@ fn cylinders() -> impl Iterator<Item = [f64; 7]> {
     ];
     let ends = lengths.into_iter().chain(reciprocals).map(|[x, y, z]| [0.0, 0.0, 0.0, x, y, z, 0.5]);
     let across = radii.into_iter().map(|radius| [12.0, 0.0, 10.0, 30.0, 0.0, 10.0, radius]);
-    walks.into_iter().chain(ends).chain(across).chain(others)
+    let along_y = [
+        [0.0, 12.0, 10.0, 0.0, 30.0, 10.0, 0.0],
+        [0.0, 12.0, 10.0, 0.0, 30.0, 10.0, 2f64.powi(-30)],
+        [8.0, 4.0, 21.5, 8.0, 24.0, 21.5, 4.0],
+        [3.0, -30.0, 10.0, 3.0, -12.0, 10.0, 2.0],
+        [0.0, 0.0, 0.0, 0.0, shorter, 0.0, 0.5],
+        [0.0, 0.0, 0.0, 1.0, 1.0, 0.0, 0.5],
+    ];
+    walks.into_iter().chain(ends).chain(across).chain(others).chain(along_y)
 }
 
 /// Everything that the list holds, in order of kind.

@@ -87,10 +87,19 @@ fn convex(query: &Query) -> Option<Hit> {
 }
 
 fn cylinder(query: &Query) -> Option<(Hit, traced::trace::Trace)> {
-    let [ax, ay, az, bx, by, bz, radius] = query.array();
-    let (a, b) = (traced::Vec3::new(ax, ay, az), traced::Vec3::new(bx, by, bz));
+    let body @ [ax, ay, az, bx, by, bz, radius] = query.array();
     let solid = traced::probe::solid(&vertices(&query.lists[0]));
-    traced::trace::cylinder(&solid, traced::Cylinder { a, b, radius })
+    let rust = |a: [f64; 3], b: [f64; 3]| {
+        let [a, b] = [a, b].map(|[x, y, z]| traced::Vec3::new(x, y, z));
+        traced::trace::cylinder(&solid, traced::Cylinder { a, b, radius })
+    };
+    let given = rust([ax, ay, az], [bx, by, bz]);
+    if table::axis(body) != Some(table::Axis::AlongY) {
+        return given;
+    }
+    // Request (iv): the Rust refuses a cylinder along Y, and is asked on exchanged coordinates.
+    assert!(given.is_none(), "the Rust accepts a cylinder along Y: {}", query.line());
+    rust([ay, ax, az], [by, bx, bz])
 }
 
 fn verdict(query: &Query, distance: f64) -> Option<Answer> {

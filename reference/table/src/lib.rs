@@ -61,21 +61,35 @@ pub fn convex(convex: &[f64], section: &[f64], more: &[f64]) -> Result<(), u32> 
 
 /// The body is ax, ay, az, bx, by, bz, radius.
 pub fn cylinder(section: &[f64], body: [f64; 7], more: &[f64]) -> Result<(), u32> {
-    let own = [(9, body[6] < 0.0), (11, !axial_or_radial(body))];
+    let own = [(9, body[6] < 0.0), (11, axis(body).is_none())];
     first(&[&vertices(&[section]), &numbers(&[section, &body, more]), &own])
 }
 
+/// The directions that the axis test tells apart: along the spindle, and across it along X or, by request (iv), Y.
+#[derive(Clone, Copy, Debug, PartialEq, Eq)]
+pub enum Axis {
+    Axial,
+    AlongX,
+    AlongY,
+}
+
 /// The direction is the difference of the ends times the reciprocal of its length; length 0 counts as along z.
-fn axial_or_radial(body: [f64; 7]) -> bool {
+pub fn axis(body: [f64; 7]) -> Option<Axis> {
     let [ax, ay, az, bx, by, bz, _] = body;
     let (x, y, z) = (bx - ax, by - ay, bz - az);
     let length = exact_hypot::hypot(exact_hypot::hypot(x, y), z);
     if length == 0.0 {
-        return true;
+        return Some(Axis::Axial);
     }
-    let reciprocal = 1.0 / length;
-    let (x, z) = ((x * reciprocal).abs(), (z * reciprocal).abs());
-    z >= 1.0 - 1e-8 || z <= 1e-8 && x >= 1.0 - 1e-8
+    let [x, y, z] = [x, y, z].map(|component| (component * (1.0 / length)).abs());
+    if z >= 1.0 - 1e-8 {
+        return Some(Axis::Axial);
+    }
+    match z <= 1e-8 {
+        true if x >= 1.0 - 1e-8 => Some(Axis::AlongX),
+        true if y >= 1.0 - 1e-8 => Some(Axis::AlongY),
+        _ => None,
+    }
 }
 
 #[cfg(test)]
@@ -103,6 +117,9 @@ mod tests {
         assert_eq!(cylinder(&S, [0.0, 0.0, 0.0, 0.0, 0.0, 0.0, 1.0], &[]), Ok(()));
         assert_eq!(cylinder(&S, [0.0, 0.0, 0.0, 1e-320, 0.0, 0.0, 1.0], &[]), Err(11));
         assert_eq!(cylinder(&S, [0.0, 0.0, 0.0, 1e-320, 0.0, 5e-324, 1.0], &[]), Ok(()));
+        assert_eq!(cylinder(&S, [0.0, 0.0, 0.0, 0.0, 1.0, 0.0, 1.0], &[]), Ok(()));
+        assert_eq!(cylinder(&S, [0.0, 0.0, 0.0, 1.0, 1.0, 0.0, 1.0], &[]), Err(11));
+        assert_eq!(cylinder(&S, [0.0, 0.0, 0.0, 0.0, 1e-320, 0.0, 1.0], &[]), Err(11));
     }
 
     #[test]

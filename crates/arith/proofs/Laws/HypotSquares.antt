@@ -35,7 +35,7 @@ record Size (f : Format) (v : Float) (a : ℕ) : Type 0 where
   pub place : key f v ≡ mid f + a
 
 module _ (f : Format) where
-  key-below : (v : Float) → T (finiteNumber f v) → key f v < mid f + mid f
+  pub key-below : (v : Float) → T (finiteNumber f v) → key f v < mid f + mid f
   key-below v p = rw (key-is f v) (go (negative v) (representable-of f v p .small))
     where
       go : (s : Bool) → magnitude f v < mid f → side (mid f) s (magnitude f v) < mid f + mid f

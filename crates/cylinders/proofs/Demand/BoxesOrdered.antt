@@ -5,10 +5,11 @@ use mathlib.Core.Path.{_≡_}
 use lib.Ieee.{Float}
 use Rattle.arith.specs.F64.{e-9}
 use Rattle.profile.proofs.Each.{All}
-use Rattle.bands.specs.Band.{axialBox, bandOf}
+use Rattle.bands.specs.Axis.{axis}
+use Rattle.bands.specs.Band.{axialBox, bandOf, measuredAs}
 use Rattle.bands.specs.declared.shapes.Cylinder.{Cylinder}
 use Rattle.bands.proofs.AxialBox.{Ordered, axialBox-ordered}
-use Rattle.bands.proofs.Limit.{bandOf-in-limit}
+use Rattle.bands.proofs.Limit.{bandOf-in-limit, measuredAs-in-limit}
 use Rattle.walk.specs.Pieces.{pieceBox}
 use Rattle.walk.specs.Walk.{thinBox, walkAll}
 use Rattle.walk.specs.declared.shapes.Piece.{Piece}
@@ -21,12 +22,13 @@ use Rattle.cylinders.proofs.Cover.Accepted.{accepted}
 -- the boxes of a cylinder that is not turned down
 pub record BoxesOrdered (s : List Float) (c : Cylinder) : Type 0 where
   pub along : Ordered (axialBox c)
-  pub thin : Ordered (thinBox (bandOf c))
-  pub across : All (λ (p : Piece). Ordered (pieceBox (bandOf c) p)) (walkAll s (bandOf c) e-9 8192 16 .seen)
+  pub thin : Ordered (thinBox (bandOf (measuredAs (axis c) c)))
+  pub across : let b = bandOf (measuredAs (axis c) c) in
+      All (λ (p : Piece). Ordered (pieceBox b p)) (walkAll s b e-9 8192 16 .seen)
 
 pub boxes-ordered : (s : List Float) (c : Cylinder) (extra : List Float) → refusal (cylinderTests s c extra) ≡ 0
     → BoxesOrdered s c
 boxes-ordered s c extra e =
     let C = accepted s c extra e .cylinder in
-    let B = bandOf-in-limit C in
+    let B = bandOf-in-limit (measuredAs-in-limit (axis c) C) in
     record { along = axialBox-ordered C; thin = thinBox-ordered B; across = walkAll-ordered s B e-9 8192 16 }

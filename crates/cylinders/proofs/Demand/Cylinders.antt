@@ -17,11 +17,11 @@ use Rattle.section.proofs.Demand.AtMost.{atMost-raise, value-atMost}
 use Rattle.bands.specs.Axis.{axis}
 use Rattle.bands.specs.Band.{axialBox}
 use Rattle.bands.specs.declared.shapes.Axis.{Axis}
-use Rattle.bands.specs.declared.shapes.Axis.the-variants.{Axial, Neither, Radial}
+use Rattle.bands.specs.declared.shapes.Axis.the-variants.{Axial, AlongX, AlongY, Neither}
 use Rattle.bands.specs.declared.shapes.Cylinder.{Cylinder}
 use Rattle.bands.specs.declared.shapes.RadialBand.{RadialBand}
 use Rattle.bands.proofs.AxialBox.{axial-r0, axial-r1, axial-z0, axial-z1}
-use Rattle.bands.proofs.Limit.{CylinderInLimit, InLimit, bandOf-in-limit}
+use Rattle.bands.proofs.Limit.{CylinderInLimit, InLimit, bandOf-in-limit, measuredAs-in-limit}
 use Rattle.walk.specs.Walk.{bandDistance}
 use Rattle.walk.specs.declared.shapes.CountedHit.{CountedHit}
 use Rattle.walk.proofs.Demand.Pieces.{thinBox-atMost}
@@ -56,7 +56,8 @@ module _ {s : List Float} (S : VerticesAtMost 23 s) where
 
       by : (a : Axis) → axis c ≡ a → HitAtMost 28 (cylinderDistance s c .hit)
       by Axial e = rw e along
-      by Radial e = rw e (band-atMost (bandOf-in-limit C))
+      by AlongX e = rw e (band-atMost (bandOf-in-limit C))
+      by AlongY e = rw e (band-atMost (bandOf-in-limit (measuredAs-in-limit AlongY C)))
       by Neither e = rw e along
 
 pub cylinder-bounded : (s : List Float) (c : Cylinder) (extra : List Float) → refusal (cylinderTests s c extra) ≡ 0

@@ -144,7 +144,8 @@ pub fn convex(random: &mut Random, style: Style, section: &[Vertex]) -> Vec<Vert
     sections::rotated(random, body)
 }
 
-/// Along or across the spindle, a little tilted, or of no length. One in 200 is made to be walked, which takes long.
+/// Along or across the spindle, along X or Y, a little tilted, or of no length. One in 200 is made to be walked, which takes
+/// long.
 pub fn cylinder(random: &mut Random, style: Style, section: &[Vertex]) -> Vec<f64> {
     let (z, r) = target(random, style, section);
     let (x, y) = spread(random, r);
@@ -159,6 +160,10 @@ pub fn cylinder(random: &mut Random, style: Style, section: &[Vertex]) -> Vec<f6
     let mut ends = ends.map(limited);
     if random.chance(1, 2) {
         ends.rotate_left(3);
+    }
+    if random.chance(1, 2) {
+        ends.swap(0, 1);
+        ends.swap(3, 4);
     }
     ends.into_iter().chain([radius]).collect()
 }

@@ -13,6 +13,8 @@ pub const CYLINDER: &[(&str, Make)] = &[
     ("variation 1e-9", variation),
     ("width 1e-9", width),
     ("dropped piece, best + 1e-12", dropped),
+    ("along Y, direction z 1e-8", along_y_z),
+    ("along Y, direction y 1 - 1e-8", along_y_y),
 ];
 
 /// A cylinder at (x, y, z) with this difference of its ends, given either way round.
@@ -63,6 +65,25 @@ fn radial_x(random: &mut Random, kind: Kind) -> Near {
     let delta = [length, random.sign(tilt) * length, 0.0];
     let query = cylinder(random, kind, [0.0; 3], delta, 0.0);
     Near { query, number: direction(delta, 0), threshold: 1.0 - 1e-8 }
+}
+
+/// A difference of the ends along Y, in any of the eight sign patterns.
+fn along_y(random: &mut Random, x: f64, z: f64) -> [f64; 3] {
+    let length = random.pick(&[1.0, 2.0, 64.0, 1e-3]);
+    [x, 1.0, z].map(|share| random.sign(share * length))
+}
+
+fn along_y_z(random: &mut Random, kind: Kind) -> Near {
+    let (x, z) = (random.pick(&[0.0, 1e-9, 1e-4]), random.near(1e-8));
+    let delta = along_y(random, x, z);
+    let radius = random.pick(&[0.0, 1e-16]);
+    Near { query: cylinder(random, kind, [0.0; 3], delta, radius), number: direction(delta, 2), threshold: 1e-8 }
+}
+
+fn along_y_y(random: &mut Random, kind: Kind) -> Near {
+    let (x, z) = (tilt(random), random.pick(&[0.0, 1e-9]));
+    let delta = along_y(random, x, z);
+    Near { query: cylinder(random, kind, [0.0; 3], delta, 0.0), number: direction(delta, 1), threshold: 1.0 - 1e-8 }
 }
 
 fn line(random: &mut Random, kind: Kind) -> Near {

@@ -14,10 +14,25 @@ enum-told-2 : tie.Need-enum-told-2
 enum-told-2 c = search needs
 
 query-radial-requires : tie.Need-query-radial-requires
-query-radial-requires c κs = (c .before .before .before .pre .long, c .before .before .before .pre .room)
+query-radial-requires c κs =
+    let asked = c .before .before .before .pre in
+    let room = asked .room in
+    (asked .long, rw (c .enum-told2 .given .1) at room)
 
 enum-told-3 : tie.Need-enum-told-3
 enum-told-3 c = search needs
+
+exchanged-requires : tie.Need-exchanged-requires
+exchanged-requires c κs = search needs
+
+query-radial-requires-2 : tie.Need-query-radial-requires-2
+query-radial-requires-2 c κs =
+    let asked = c .before .before .before .before .pre in
+    let room = asked .room in
+    rw (c .exchanged .ensures) (asked .long, rw (c .before .enum-told3 .given .1) at room)
+
+enum-told-4 : tie.Need-enum-told-4
+enum-told-4 c = search needs
 
 query-axial-requires-2 : tie.Need-query-axial-requires-2
 query-axial-requires-2 c κs = search needs
@@ -34,7 +49,17 @@ returns-2 c =
 returns-3 : tie.Need-returns-3
 unfolding cylinderDistance
 returns-3 c =
-    rw (← c .before .before .before .before .pre .along, c .before .enum-told3 .given .1) (c .query-axial2 .ensures)
+    rw (
+      ← c .before .before .before .before .before .pre .along,
+      c .before .before .enum-told3 .given .1,
+      ← c .before .exchanged .ensures,
+    )
+    (c .query-radial2 .ensures)
+
+returns-4 : tie.Need-returns-4
+unfolding cylinderDistance
+returns-4 c =
+    rw (← c .before .before .before .before .pre .along, c .before .enum-told4 .given .1) (c .query-axial2 .ensures)
 
 pub cylinder-distance-spec : {M : Type 1} → statement M
 cylinder-distance-spec =
@@ -45,7 +70,11 @@ cylinder-distance-spec =
     enum-told-2
     query-radial-requires
     enum-told-3
+    exchanged-requires
+    query-radial-requires-2
+    enum-told-4
     query-axial-requires-2
     returns
     returns-2
-    returns-3)
+    returns-3
+    returns-4)

@@ -17,6 +17,9 @@ enum-told-2 c = search needs
 enum-told-3 : tie.Need-enum-told-3
 enum-told-3 c = search needs
 
+enum-told-4 : tie.Need-enum-told-4
+enum-told-4 c = search needs
+
 returns-2 : tie.Need-returns-2
 unfolding refusal
 returns-2 c = rw (c .before .before .if1 .left, c .enum-told .given .1)
@@ -29,6 +32,11 @@ returns-4 : tie.Need-returns-4
 unfolding refusal
 returns-4 c = rw (c .before .before .if1 .left, c .enum-told3 .given .1)
 
+returns-5 : tie.Need-returns-5
+unfolding refusal
+returns-5 c = rw (c .before .before .if1 .left, c .enum-told4 .given .1)
+
 pub own-refusal-spec : {M : Type 1} → statement M
 own-refusal-spec =
-    tie.close (tie.spec returns enum-told enum-told-2 enum-told-3 returns-2 returns-3 returns-4)
+    tie.close
+    (tie.spec returns enum-told enum-told-2 enum-told-3 enum-told-4 returns-2 returns-3 returns-4 returns-5)

@@ -1,0 +1,69 @@
+-- Exchanging x and y changes no answer, so that a cylinder along Y is answered as the exchanged one along X: the same numbers are
+-- tested in another order, X and Y change places, and hypot commutes.
+use mathlib.Core.Bool.{Bool, true, false, _||_}
+use mathlib.Core.List.{List, [], _++_}
+use mathlib.Core.Path.{_≡_, _∙_, refl, sym, ap}
+use lib.Ieee.{Float, binary64}
+use Rattle.arith.proofs.Laws.Hypot.{hypot-comm}
+use Rattle.profile.specs.Refusals.{anyOf, notFinite, overLimit, refusal}
+use Rattle.profile.proofs.Refusals.AnyOf.{any-of-append}
+use Rattle.bands.specs.Axis.{axis}
+use Rattle.bands.specs.Band.{axialBox, exchanged, mean}
+use Rattle.bands.specs.declared.shapes.Axis.{Axis}
+use Rattle.bands.specs.declared.shapes.Axis.the-variants.{Axial, AlongX, AlongY, Neither}
+use Rattle.bands.specs.declared.shapes.Cylinder.{Cylinder}
+use Rattle.bands.proofs.Exchange.{exchanged-axis, swapped}
+use Rattle.cylinders.specs.Cylinders.{cylinderAnswer, cylinderDistance, cylinderNumbers, cylinderTests, neither}
+
+swap : (a b r : Bool) → (a || (b || r)) ≡ (b || (a || r))
+swap true true r = refl
+swap true false r = refl
+swap false b r = refl
+
+numbers-swapped : (test : Float → Bool) (c : Cylinder) (l : List Float)
+    → anyOf test (cylinderNumbers (exchanged c) ++ l) ≡ anyOf test (cylinderNumbers c ++ l)
+unfolding anyOf
+numbers-swapped test c l =
+    rw (swap (test (c .a .y)) (test (c .a .x)) _, swap (test (c .b .y)) (test (c .b .x)) _)
+
+given-swapped : (test : Float → Bool) (s : List Float) (c : Cylinder) (l : List Float)
+    → anyOf test (s ++ (cylinderNumbers (exchanged c) ++ l)) ≡ anyOf test (s ++ (cylinderNumbers c ++ l))
+given-swapped test s c l = rw (any-of-append test s _, any-of-append test s _, numbers-swapped test c l)
+
+module _ (s : List Float) (c : Cylinder) where
+  refusal-exchanged : refusal (cylinderTests s (exchanged c) []) ≡ refusal (cylinderTests s c [])
+  unfolding refusal
+  refusal-exchanged = rw (given-swapped notFinite s c [], given-swapped overLimit s c [], exchanged-axis c, neither-swapped (axis c))
+    where
+      neither-swapped : (a : Axis) → neither (swapped a) ≡ neither a
+      neither-swapped Axial = refl
+      neither-swapped AlongX = refl
+      neither-swapped AlongY = refl
+      neither-swapped Neither = refl
+
+  box-exchanged : axialBox (exchanged c) ≡ axialBox c
+  unfolding axialBox
+  box-exchanged = rw (hypot-comm binary64 (mean (c .a .y) (c .b .y)) (mean (c .a .x) (c .b .x)))
+
+  distance-exchanged : cylinderDistance s (exchanged c) ≡ cylinderDistance s c
+  unfolding cylinderDistance
+  distance-exchanged = by (axis c) refl
+    where
+      by : (a : Axis) → axis c ≡ a → cylinderDistance s (exchanged c) ≡ cylinderDistance s c
+      by Axial e = rw (exchanged-axis c, e, box-exchanged)
+      by AlongX e = rw (exchanged-axis c, e)
+      by AlongY e = rw (exchanged-axis c, e)
+      by Neither e = rw (exchanged-axis c, e, box-exchanged)
+
+  -- the whole answer: number, distance, witness, counts and mark
+  pub answer-exchanged : cylinderAnswer s (exchanged c) ≡ cylinderAnswer s c
+  unfolding cylinderAnswer
+  answer-exchanged = rw (refusal-exchanged, distance-exchanged)
+
+-- along Y: the answer of the exchanged cylinder, which is along X
+pub record AsAlongX (s : List Float) (c : Cylinder) : Type 0 where
+  pub direction : axis (exchanged c) ≡ AlongX
+  pub answer : cylinderAnswer s c ≡ cylinderAnswer s (exchanged c)
+
+pub along-y : (s : List Float) (c : Cylinder) → axis c ≡ AlongY → AsAlongX s c
+along-y s c e = record { direction = exchanged-axis c ∙ ap swapped e; answer = sym (answer-exchanged s c) }
