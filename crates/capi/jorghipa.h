@@ -7,13 +7,15 @@
  * A distance is negative inside, 0 on contact. Its witness is a point (z, radius) of the section. Beside a section
  * nowhere over 1e-9 from the axis, a point or a sphere is at +infinity with the first vertex as witness.
  *
- * Each call returns 0, or the lowest number that applies, and then changes nothing that it was lent:
+ * Each call returns 0, or the number of the first test that applies, and then changes nothing that it was lent. The tests,
+ * in their order; each call makes those that it names, each over all lists and numbers that it is given:
  *    1  odd count of numbers                  6  section radius below -1e-9 (builder)
  *    2  fewer than 3 vertices (2 points)      7  space too small (builder)
  *    3  over 256 vertices (254 points)        8  under 3 vertices kept (builder)
  *    4  a number is NaN or infinite           9  body radius below 0
  *    5  a magnitude over the limit           10  z1 < z0 or r1 < r0
- *                                            11  cylinder neither along the spindle nor across it
+ *   18  a setting out of range or not finite 11  cylinder neither along the spindle nor across it
+ * So 18 stands between 5 and 6. 4 and 5 do not look at the settings: a tolerance of NaN is 18.
  *
  * jorghipa_records.h has the queries of a point, sphere, box and cylinder over an array of vertices.
  *
@@ -63,14 +65,28 @@ uint32_t jorghipa_build_section(const double *points, size_t points_count, doubl
 uint32_t jorghipa_build_polygon(const double *points, size_t points_count, double *space, size_t space_count,
                                 size_t *kept);
 
-/* Distance of the flat-capped cylinder from a to b, along the spindle (z) or across it (x or y). *boxes counts the boxes
- * that were measured, *waiting the most pieces that waited at any one time; *cut is 1 where the walk stopped at
- * 8,192 boxes with a piece still due, and then the distance is the least of the boxes'. Numbers 1 to 5, 9, 11. */
-uint32_t jorghipa_cylinder(const double *section, size_t section_count, double ax, double ay, double az, double bx,
-                           double by, double bz, double radius, double *distance, double *witness_z,
-                           double *witness_radius, uint32_t *boxes, uint32_t *waiting, uint32_t *cut);
+/* The finest settings of the walk, which are those of every call that takes none. */
+#define JORGHIPA_TOLERANCE 1e-9
+#define JORGHIPA_MOST 8192
+#define JORGHIPA_INTERVALS 16
 
-/* *collision is 1 exactly when distance + 1e-9 < clearance, else 0. Numbers of the query; 4 and 5 for the clearance. */
+/* Distance of the flat-capped cylinder from a to b, along the spindle (z) or across it (x or y). *boxes counts the boxes
+ * that were measured, *waiting the most pieces that waited at any one time; *cut is 1 where the walk stopped at `most`
+ * boxes with a piece still due, and then the distance is the least of the boxes'. Numbers 1 to 5, 18, 9, 11.
+ *
+ * The settings of the walk across the spindle. It samples the cylinder at intervals + 1 values of z, then measures boxes
+ * around pieces of it, and halves a piece whose box is wider, and varies more in radius, than the tolerance.
+ *    tolerance   1e-9 to 1 mm: how closely a piece's bounds must agree before it is left as it is
+ *    most        1 to 8,192: the most boxes that are measured
+ *    intervals   1 to 64: the intervals between samples
+ * Along the spindle, and at radius at most 1e-15, one box is measured at every setting. */
+uint32_t jorghipa_cylinder(const double *section, size_t section_count, double ax, double ay, double az, double bx,
+                           double by, double bz, double radius, double tolerance, uint32_t most, uint32_t intervals,
+                           double *distance, double *witness_z, double *witness_radius, uint32_t *boxes,
+                           uint32_t *waiting, uint32_t *cut);
+
+/* *collision is 1 exactly when distance + 1e-9 < clearance, else 0. Numbers of the query without 18; 4 and 5 for the
+ * clearance. A cylinder is measured at the finest settings. */
 uint32_t jorghipa_verdict_sphere(const double *section, size_t section_count, double x, double y, double z,
                                  double radius, double clearance, uint32_t *collision);
 

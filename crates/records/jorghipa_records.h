@@ -5,7 +5,7 @@
  * magnitude at most 1,048,576. A distance is negative inside, 0 on contact; its witness is a point of the section.
  *
  * The number of a reply is 0, or the lowest that applies of jorghipa.h's table, and then every other field is 0. A count
- * of vertices cannot be odd, so number 1 is never given.
+ * of vertices cannot be odd, so number 1 is never given; nor is 18, since these calls keep the finest settings.
  *
  * What the caller owes, and nothing checks: the pointer is valid for its count, aligned, and not null even at count 0.
  */

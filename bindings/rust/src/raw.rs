@@ -27,7 +27,7 @@ unsafe extern "C" {
     ) -> u32;
     pub fn jorghipa_cylinder(
         section: *const f64, section_count: usize, ax: f64, ay: f64, az: f64, bx: f64, by: f64, bz: f64, radius: f64,
-        distance: *mut f64, witness_z: *mut f64, witness_radius: *mut f64,
+        tolerance: f64, most: u32, intervals: u32, distance: *mut f64, witness_z: *mut f64, witness_radius: *mut f64,
         boxes: *mut u32, waiting: *mut u32, cut: *mut u32,
     ) -> u32;
     pub fn jorghipa_verdict_sphere(

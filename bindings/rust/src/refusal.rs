@@ -32,6 +32,7 @@ impl Refusal {
             12 => "store length wrong",
             13 => "next past the end of the store, or a record twice",
             14 => "record of the wrong kind",
+            18 => "a setting out of range or not finite",
             _ => return None,
         })
     }
@@ -55,16 +56,17 @@ pub(crate) fn accepted(number: u32) -> Result<(), Refusal> {
 mod tests {
     use super::*;
 
-    /// Numbers 1 to 14 of the README's table, and no other.
+    /// The numbers of the README's table, and no other.
     #[test]
     fn every_known_number_has_its_meaning() {
         let table: Vec<&str> =
             include_str!("../README.md").lines().filter(|line| line.starts_with("| ")).skip(1).collect();
-        assert_eq!(table.len(), 14);
-        for (number, row) in (1..).zip(table) {
+        let known: Vec<u32> = (1..=14).chain([18]).collect();
+        assert_eq!(table.len(), known.len());
+        for (number, row) in known.into_iter().zip(table) {
             assert_eq!(row, format!("| {number} | {} |", Refusal(number).meaning().unwrap()));
         }
-        for unknown in [0, 15, u32::MAX] {
+        for unknown in [0, 15, 16, 17, 19, u32::MAX] {
             assert_eq!(Refusal(unknown).to_string(), format!("refused {unknown}"));
         }
     }

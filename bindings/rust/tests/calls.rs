@@ -31,10 +31,35 @@ fn readings() {
     let corners = [25.0, 0.0, 30.0, 0.0, 30.0, 5.0, 25.0, 5.0];
     assert_eq!(convex(&corners, &S).map(|hit| hit.distance), Ok(5.0));
     let along = bar(at(15.0, 0.0, 0.0), at(15.0, 0.0, 30.0), 2.0);
-    assert_eq!(cylinder(&S, along), Ok(CylinderHit { hit: hit(3.0, 0.0, 10.0), boxes: 1, waiting: 0, cut: false }));
+    assert_eq!(
+        cylinder(&S, along, Settings::FINEST),
+        Ok(CylinderHit { hit: hit(3.0, 0.0, 10.0), boxes: 1, waiting: 0, cut: false })
+    );
     let across = bar(at(12.0, 0.0, 10.0), at(30.0, 0.0, 10.0), 2.0);
-    assert_eq!(cylinder(&S, across).map(|walk| (walk.boxes, walk.cut)), Ok((8192, true)));
+    assert_eq!(cylinder(&S, across, Settings::FINEST).map(|walk| (walk.boxes, walk.cut)), Ok((8192, true)));
     assert_eq!((sqrt(2.25), hypot(3.0, 4.0)), (1.5, 5.0));
+}
+
+#[test]
+fn settings() {
+    let (along, across) =
+        (bar(at(15.0, 0.0, 0.0), at(15.0, 0.0, 30.0), 2.0), bar(at(0.0, 0.0, 20.0), at(30.0, 0.0, 20.0), 1.0));
+    let with = |tolerance, most, intervals| Settings { tolerance, most, intervals };
+    assert_eq!(cylinder(&S, across, Settings::FINEST).map(|walk| (walk.boxes, walk.cut)), Ok((53, false)));
+    assert_eq!(cylinder(&S, across, with(0.01, 64, 4)).map(|walk| (walk.boxes, walk.cut)), Ok((7, false)));
+    assert_eq!(cylinder(&S, across, with(0.01, 1, 4)).map(|walk| (walk.boxes, walk.cut)), Ok((1, true)));
+    for taken in [with(1e-9, 1, 1), with(1.0, 8192, 64)] {
+        assert!(cylinder(&S, along, taken).is_ok() && cylinder(&S, across, taken).is_ok());
+    }
+    let tolerances = [f64::NAN, f64::INFINITY, 0.0, 1e-9f64.next_down(), 1f64.next_up()].map(|x| with(x, 64, 4));
+    let counts = [(0, 4), (8193, 4), (64, 0), (64, 65)].map(|(most, intervals)| with(0.01, most, intervals));
+    for refused in tolerances.into_iter().chain(counts) {
+        assert_eq!(cylinder(&S, along, refused), Err(Refusal(18)));
+        assert_eq!(cylinder(&S, across, refused), Err(Refusal(18)));
+        // Between 5 and 9.
+        assert_eq!(cylinder(&S, bar(at(0.0, 0.0, 0.0), at(1.0, 0.0, 1.0), -1.0), refused), Err(Refusal(18)));
+        assert_eq!(cylinder(&S, bar(at(2e6, 0.0, 0.0), at(0.0, 0.0, 1.0), 1.0), refused), Err(Refusal(5)));
+    }
 }
 
 #[test]
@@ -72,7 +97,7 @@ fn refusals() {
     assert_eq!(space, [7.0; 8]);
     assert_eq!(sphere(&S, Sphere { center: origin, radius: -1.0 }), Err(Refusal(9)));
     assert_eq!(aabb(&S, bounds(5.0, 4.0, 0.0, 5.0)), Err(Refusal(10)));
-    assert_eq!(cylinder(&S, bar(origin, at(1.0, 0.0, 1.0), 1.0)), Err(Refusal(11)));
+    assert_eq!(cylinder(&S, bar(origin, at(1.0, 0.0, 1.0), 1.0), Settings::FINEST), Err(Refusal(11)));
 }
 
 #[cfg(feature = "records")]
@@ -84,6 +109,6 @@ fn records() {
     assert_eq!(point_of(&section, at(3.0, 4.0, 30.0)), point(&S, at(3.0, 4.0, 30.0)));
     assert_eq!(sphere_of(&section, ball), sphere(&S, ball));
     assert_eq!(box_of(&section, bounds(25.0, 30.0, 0.0, 5.0)), aabb(&S, bounds(25.0, 30.0, 0.0, 5.0)));
-    assert_eq!(cylinder_of(&section, along), cylinder(&S, along));
+    assert_eq!(cylinder_of(&section, along), cylinder(&S, along, Settings::default()));
     assert_eq!(point_of(&section[..2], at(0.0, 0.0, 0.0)), Err(Refusal(2)));
 }

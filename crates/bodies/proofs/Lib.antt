@@ -1,3 +1,3 @@
--- The answer of a body's query, kind by kind.
+-- What a body's query promises, kind by kind; 01's lowest number.
 pub mod OfKind
 pub mod Lowest

@@ -10,6 +10,8 @@ use Rattle.points.specs.Points.{sphereDistance}
 use Rattle.boxes.specs.Boxes.{boxDistance}
 use Rattle.section.specs.Demand.{Bounded, BoundedOffAxis}
 use Rattle.bands.specs.Axis.{axis}
+use Rattle.settings.specs.Settings.{settingsTests}
+use Rattle.settings.specs.declared.shapes.Settings.{Settings}
 use Rattle.walk.specs.declared.shapes.CountedHit.{CountedHit}
 use Rattle.cylinders.specs.Cylinders.{cylinderNumbers, cylinderOwn, cylinderDistance}
 use Rattle.cylinders.specs.Promised.{Promised}
@@ -26,25 +28,26 @@ bodyOwn (Sphere b) = radiusTests (b .radius)
 bodyOwn (Box x) = boundsTests x
 bodyOwn (Cylinder c) = cylinderOwn (c .radius) (axis c)
 
--- beside a section, with more numbers that are given
-abbrev pub bodyTests : List Float → Body → List Float → List Test
-bodyTests s b extra = besideTests s (bodyNumbers b) extra (bodyOwn b)
+-- beside a section, with more numbers that are given, and tests of settings
+abbrev pub bodyTests : List Float → Body → List Float → List Test → List Test
+bodyTests s b extra settings = besideTests s (bodyNumbers b) extra settings (bodyOwn b)
 
 -- n boxes, nothing waiting, uncut
 abbrev pub boxesOnly : ℕ → CollisionHit → CountedHit
 boxesOnly n h = record { hit = h; boxes = n; waiting = 0; cut = false }
 
 -- a sphere counts no box, a box one, a cylinder those of its axis
-abbrev pub bodyDistance : List Float → Body → CountedHit
-bodyDistance s (Sphere b) = boxesOnly 0 (sphereDistance s b)
-bodyDistance s (Box x) = boxesOnly 1 (boxDistance s x)
-bodyDistance s (Cylinder c) = cylinderDistance s c
+abbrev pub bodyDistance : List Float → Body → Settings → CountedHit
+bodyDistance s (Sphere b) t = boxesOnly 0 (sphereDistance s b)
+bodyDistance s (Box x) t = boxesOnly 1 (boxDistance s x)
+bodyDistance s (Cylinder c) t = cylinderDistance s c t
 
-unfoldable pub bodyAnswer : List Float → Body → Reply CountedHit
-bodyAnswer s b = reply (refusal (bodyTests s b [])) (bodyDistance s b)
+-- bad settings are turned down beside every kind of body
+unfoldable pub bodyAnswer : List Float → Body → Settings → Reply CountedHit
+bodyAnswer s b t = reply (refusal (bodyTests s b [] (settingsTests t))) (bodyDistance s b t)
 
 -- demands 1 and 3 of a hit
-abbrev pub BodyPromised : List Float → Body → CountedHit → Type 0
-BodyPromised s (Sphere b) h = BoundedOffAxis s (h .hit)
-BodyPromised s (Box x) h = Bounded (h .hit)
-BodyPromised s (Cylinder c) h = Promised s c h
+abbrev pub BodyPromised : List Float → Body → Settings → CountedHit → Type 0
+BodyPromised s (Sphere b) t h = BoundedOffAxis s (h .hit)
+BodyPromised s (Box x) t h = Bounded (h .hit)
+BodyPromised s (Cylinder c) t h = Promised s c t h

@@ -1,40 +1,74 @@
 // The query of a body, whatever its kind.
 ghost use mathlib.Core.Path.{_≡_};
-ghost use Rattle.profile.specs.Replies.{Answers, mapped};
-ghost use Rattle.section.specs.Answers as section·specs;
+ghost use Rattle.profile.specs.Replies.{Answers};
 ghost use Rattle.cylinders.specs.Cylinders.{told};
 ghost use Rattle.bodies.specs.Bodies.{bodyAnswer, BodyPromised, boxesOnly};
+ghost use Rattle.bodies.specs.declared.shapes.Body.the-variants as body·kinds;
 use super::shapes::Body;
+use boxes::box_distance;
 use cylinders::CountedAnswer;
 use cylinders::query_cylinder;
-use section::Answer;
-use section::aabb_polygon_distance;
-use section::query_sphere;
+use points::sphere_distance;
+use profile::Aabb;
+use profile::CollisionHit;
+use profile::Sphere;
+use profile::box_refusal;
+use profile::sphere_refusal;
+use settings::Settings;
+use settings::settings_refusal;
 use walk::CountedHit;
 
-// An answer with this number of boxes, nothing waiting, uncut.
-fn counted(answer: Answer, boxes: usize) -> CountedAnswer
-    ensures { λ r. ⌜ told r ≡ mapped (boxesOnly boxes) (section·specs.told answer) ⌝ }
+// This number of boxes, nothing waiting, uncut.
+fn boxes_only(hit: CollisionHit, boxes: usize) -> CountedHit
+    ensures { λ r. ⌜ r ≡ boxesOnly boxes hit ⌝ }
 {
-    match answer {
-        Answer::Refused(n) => CountedAnswer::Refused(n),
-        Answer::Hit(hit) => CountedAnswer::Hit(CountedHit {
-            hit,
-            boxes,
-            waiting: 0,
-            cut: false,
-        }),
+    CountedHit {
+        hit,
+        boxes,
+        waiting: 0,
+        cut: false,
     }
+}
+
+fn query_sphere(section: &[f64], sphere: Sphere, settings: Settings) -> CountedAnswer
+    ensures { λ r. ⌜
+        (let s = now (section .entry) in let b = body·kinds.Sphere sphere in
+        Answers (told r) (bodyAnswer s b settings) (BodyPromised s b settings))
+        ⌝ }
+{
+    let none = [0.0; 0];
+    let number = sphere_refusal(section, sphere, &none, settings_refusal(settings));
+    if number != 0 {
+        return CountedAnswer::Refused(number);
+    }
+    CountedAnswer::Hit(boxes_only(sphere_distance(section, sphere), 0))
+}
+
+fn query_box(section: &[f64], x: Aabb, settings: Settings) -> CountedAnswer
+    ensures { λ r. ⌜
+        (let s = now (section .entry) in let b = body·kinds.Box x in
+        Answers (told r) (bodyAnswer s b settings) (BodyPromised s b settings))
+        ⌝ }
+{
+    let none = [0.0; 0];
+    let number = box_refusal(section, x, &none, settings_refusal(settings));
+    if number != 0 {
+        return CountedAnswer::Refused(number);
+    }
+    CountedAnswer::Hit(boxes_only(box_distance(section, x), 1))
 }
 
 // A hit with its counts and mark, or the number under which the call is turned down. It asks nothing
 // of the caller.
-pub fn query_body(section: &[f64], body: Body) -> CountedAnswer
-    ensures { λ r. ⌜ (let s = now (section .entry) in Answers (told r) (bodyAnswer s body) (BodyPromised s body)) ⌝ }
+pub fn query_body(section: &[f64], body: Body, settings: Settings) -> CountedAnswer
+    ensures { λ r. ⌜
+        (let s = now (section .entry) in
+        Answers (told r) (bodyAnswer s body settings) (BodyPromised s body settings))
+        ⌝ }
 {
     match body {
-        Body::Sphere(sphere) => counted(query_sphere(section, sphere), 0),
-        Body::Box(x) => counted(aabb_polygon_distance(x.z0, x.z1, x.r0, x.r1, section), 1),
-        Body::Cylinder(cylinder) => query_cylinder(section, cylinder),
+        Body::Sphere(sphere) => query_sphere(section, sphere, settings),
+        Body::Box(x) => query_box(section, x, settings),
+        Body::Cylinder(cylinder) => query_cylinder(section, cylinder, settings),
     }
 }

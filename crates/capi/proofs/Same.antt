@@ -1,12 +1,15 @@
 -- What an answer gives the caller, an equal answer gives.
-use Prim.Native.Nat.{ℕ}
+use Prim.Native.Nat.{ℕ, _≤_}
 use mathlib.Core.List.{List}
 use mathlib.Core.Path.{_≡_, subst, sym}
+use native.Mathlib.Nat.{le-trans}
+use lib.Dec.{lit≤}
 use lib.Ieee.{Float}
 use Rattle.profile.specs.Replies.{Reply, value, OfValue, Answers}
 use Rattle.bands.specs.declared.shapes.Cylinder.{Cylinder}
 use Rattle.walk.specs.declared.shapes.CountedHit.{CountedHit}
-use Rattle.cylinders.specs.Promised.{Few, Promised}
+use Rattle.settings.specs.declared.shapes.Settings.{Settings}
+use Rattle.cylinders.specs.Promised.{Promised}
 use Rattle.capi.specs.Interface.{Gives, Measures, Places, Counts, CylinderPlaces}
 use Rattle.capi.specs.Interface.{hitPlaces, hitCounts, cylinderPlaces, both}
 
@@ -23,7 +26,9 @@ pub walked : {a : Reply CountedHit} {h : CountedHit} {n : ℕ} {p q : Places} {c
     → a ≡ value h → Gives hitPlaces (value (h .hit)) n p q → c ≡ hitCounts h → Gives cylinderPlaces a n held (both q c)
 walked e g k = gives (sym e) (record { returned = g .returned; lent = rw (g .lent, k) })
 
--- what a cylinder query promises of its counts
-pub few : (s : List Float) (c : Cylinder) {a : Reply CountedHit} {h : CountedHit} → a ≡ value h → OfValue (Promised s c) a
-    → Few h
-few s c e p = let q = subst (λ (x : Reply CountedHit). OfValue (Promised s c) x) e p in q .few
+-- what a cylinder query promises of its counts, at settings whose most boxes are a u32: they are u32
+pub few : (s : List Float) (c : Cylinder) (t : Settings) {a : Reply CountedHit} {h : CountedHit} → t .most ≤ 4294967295 → a ≡ value h
+    → OfValue (Promised s c t) a → (h .boxes ≤ 4294967295) × (h .waiting ≤ 4294967295)
+few s c t l e p =
+    let q = subst (λ (x : Reply CountedHit). OfValue (Promised s c t) x) e p .few in
+    (le-trans (q .boxes) l, le-trans (q .waiting) (lit≤ tt))

@@ -2,7 +2,9 @@
 ghost use mathlib.Core.Path.{_≡_};
 ghost use Rattle.arith.specs.Vector.{vec};
 ghost use Rattle.cylinders.specs.Cylinders.{cylinderAnswer};
-ghost use Rattle.cylinders.specs.Promised.{Few, Promised};
+ghost use Rattle.cylinders.specs.Promised.{Promised};
+ghost use Rattle.settings.specs.Settings.{settings};
+ghost use Prim.Native.Nat.{_≤_};
 ghost use Rattle.bands.specs.Band.{bar};
 ghost use Rattle.capi.specs.Interface.{Measures, places, counts, both, mark, hitCounts, cylinderPlaces};
 use super::distances::give;
@@ -10,6 +12,7 @@ use arith::Vec3;
 use bands::Cylinder;
 use cylinders::CountedAnswer;
 use section::Answer;
+use settings::Settings;
 use walk::CountedHit;
 
 fn mark_of(cut: bool) -> u32
@@ -20,7 +23,7 @@ fn mark_of(cut: bool) -> u32
 
 // Puts the counts and the mark of a hit into the lent places.
 fn give_counts(h: CountedHit, boxes: &mut u32, waiting: &mut u32, cut: &mut u32)
-    requires { ⌜ Few h ⌝ }
+    requires { ⌜ (h .boxes ≤ 4294967295) × (h .waiting ≤ 4294967295) ⌝ }
     ensures { λ r. ⌜ counts (now (boxes .exit)) (now (waiting .exit)) (now (cut .exit)) ≡ hitCounts h ⌝ }
 {
     *boxes = h.boxes as u32;
@@ -38,6 +41,9 @@ pub extern "C" fn jorghipa_cylinder(
     by: f64,
     bz: f64,
     radius: f64,
+    tolerance: f64,
+    most: u32,
+    intervals: u32,
     distance: &mut f64,
     witness_z: &mut f64,
     witness_radius: &mut f64,
@@ -47,7 +53,8 @@ pub extern "C" fn jorghipa_cylinder(
 ) -> u32
     ensures { λ r. ⌜
         (let s = now (section .entry) in let c = bar (vec ax ay az) (vec bx by bz) radius in
-        Measures (Promised s c) cylinderPlaces (cylinderAnswer s c) r
+        let t = settings tolerance most intervals in
+        Measures (Promised s c t) cylinderPlaces (cylinderAnswer s c t) r
         (both (places (now (distance .entry)) (now («witness_z» .entry)) (now («witness_radius» .entry)))
         (counts (now (boxes .entry)) (now (waiting .entry)) (now (cut .entry))))
         (both (places (now (distance .exit)) (now («witness_z» .exit)) (now («witness_radius» .exit)))
@@ -63,7 +70,12 @@ pub extern "C" fn jorghipa_cylinder(
         y: by,
         z: bz,
     };
-    let answer = cylinders::query_cylinder(section, Cylinder { a, b, radius });
+    let settings = Settings {
+        tolerance,
+        most,
+        intervals,
+    };
+    let answer = cylinders::query_cylinder(section, Cylinder { a, b, radius }, settings);
     match answer {
         CountedAnswer::Hit(h) => {
             let hit = h.hit;

@@ -7,6 +7,8 @@ use lib.Ieee.{Float, binary64}
 use Rattle.arith.proofs.Laws.Hypot.{hypot-comm}
 use Rattle.profile.specs.Refusals.{anyOf, notFinite, overLimit, refusal}
 use Rattle.profile.proofs.Refusals.AnyOf.{any-of-append}
+use Rattle.settings.specs.Settings.{settingsTests}
+use Rattle.settings.specs.declared.shapes.Settings.{Settings}
 use Rattle.bands.specs.Axis.{axis}
 use Rattle.bands.specs.Band.{axialBox, exchanged, mean}
 use Rattle.bands.specs.declared.shapes.Axis.{Axis}
@@ -30,8 +32,8 @@ given-swapped : (test : Float → Bool) (s : List Float) (c : Cylinder) (l : Lis
     → anyOf test (s ++ (cylinderNumbers (exchanged c) ++ l)) ≡ anyOf test (s ++ (cylinderNumbers c ++ l))
 given-swapped test s c l = rw (any-of-append test s _, any-of-append test s _, numbers-swapped test c l)
 
-module _ (s : List Float) (c : Cylinder) where
-  refusal-exchanged : refusal (cylinderTests s (exchanged c) []) ≡ refusal (cylinderTests s c [])
+module _ (s : List Float) (c : Cylinder) (t : Settings) where
+  refusal-exchanged : refusal (cylinderTests s (exchanged c) [] (settingsTests t)) ≡ refusal (cylinderTests s c [] (settingsTests t))
   unfolding refusal
   refusal-exchanged = rw (given-swapped notFinite s c [], given-swapped overLimit s c [], exchanged-axis c, neither-swapped (axis c))
     where
@@ -45,25 +47,25 @@ module _ (s : List Float) (c : Cylinder) where
   unfolding axialBox
   box-exchanged = rw (hypot-comm binary64 (mean (c .a .y) (c .b .y)) (mean (c .a .x) (c .b .x)))
 
-  distance-exchanged : cylinderDistance s (exchanged c) ≡ cylinderDistance s c
+  distance-exchanged : cylinderDistance s (exchanged c) t ≡ cylinderDistance s c t
   unfolding cylinderDistance
   distance-exchanged = by (axis c) refl
     where
-      by : (a : Axis) → axis c ≡ a → cylinderDistance s (exchanged c) ≡ cylinderDistance s c
+      by : (a : Axis) → axis c ≡ a → cylinderDistance s (exchanged c) t ≡ cylinderDistance s c t
       by Axial e = rw (exchanged-axis c, e, box-exchanged)
       by AlongX e = rw (exchanged-axis c, e)
       by AlongY e = rw (exchanged-axis c, e)
       by Neither e = rw (exchanged-axis c, e, box-exchanged)
 
   -- the whole answer: number, distance, witness, counts and mark
-  pub answer-exchanged : cylinderAnswer s (exchanged c) ≡ cylinderAnswer s c
+  pub answer-exchanged : cylinderAnswer s (exchanged c) t ≡ cylinderAnswer s c t
   unfolding cylinderAnswer
   answer-exchanged = rw (refusal-exchanged, distance-exchanged)
 
 -- along Y: the answer of the exchanged cylinder, which is along X
-pub record AsAlongX (s : List Float) (c : Cylinder) : Type 0 where
+pub record AsAlongX (s : List Float) (c : Cylinder) (t : Settings) : Type 0 where
   pub direction : axis (exchanged c) ≡ AlongX
-  pub answer : cylinderAnswer s c ≡ cylinderAnswer s (exchanged c)
+  pub answer : cylinderAnswer s c t ≡ cylinderAnswer s (exchanged c) t
 
-pub along-y : (s : List Float) (c : Cylinder) → axis c ≡ AlongY → AsAlongX s c
-along-y s c e = record { direction = exchanged-axis c ∙ ap swapped e; answer = sym (answer-exchanged s c) }
+pub along-y : (s : List Float) (c : Cylinder) (t : Settings) → axis c ≡ AlongY → AsAlongX s c t
+along-y s c t e = record { direction = exchanged-axis c ∙ ap swapped e; answer = sym (answer-exchanged s c t) }

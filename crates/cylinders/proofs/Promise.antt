@@ -14,42 +14,48 @@ use Rattle.walk.specs.Walk.{bandDistance, oneBox, thinBox}
 use Rattle.cylinders.specs.Promised.{Few, Promised}
 use Rattle.cylinders.specs.Steps.{Each, IsF64}
 use Rattle.profile.specs.Refusals.{refusal}
+use Rattle.settings.specs.Settings.{settingsTests}
+use Rattle.settings.specs.declared.shapes.Settings.{Settings}
 use Rattle.profile.specs.Replies.{OfValue}
 use Rattle.profile.proofs.Replies.{of-reply}
 use Rattle.cylinders.specs.Cylinders.{cylinderAnswer, cylinderDistance, cylinderNumbers, cylinderTests}
 use Rattle.bands.specs.declared.shapes.Axis.{Axis}
 use Rattle.bands.specs.declared.shapes.Axis.the-variants.{Axial, AlongX, AlongY, Neither}
 use Rattle.bands.specs.declared.shapes.Cylinder.{Cylinder}
+use Rattle.cylinders.proofs.Cover.Accepted.{settings-accepted}
 use Rattle.cylinders.proofs.Cover.Across.{across, walk-covers}
 use Rattle.cylinders.proofs.Demand.Cylinders.{cylinder-bounded}
 
--- the counts of a hit: one box, or those of the walk, which covers
-few : (s : List Float) (c : Cylinder) → Each IsF64 (cylinderNumbers c) → refusal (cylinderTests s c []) ≡ 0 → Few (cylinderDistance s c)
-unfolding cylinderDistance bandDistance
-few s c f e = by (axis c) refl
-  where
-    one : (h : CollisionHit) → Few (oneBox h)
-    one h = record { boxes = lit≤ tt; waiting = zero-le }
+module _ (s : List Float) (c : Cylinder) (t : Settings) (f : Each IsF64 (cylinderNumbers c)) (g : IsF64 (t .tolerance)) where
+  module _ (e : refusal (cylinderTests s c [] (settingsTests t)) ≡ 0) where
+    -- the counts of a hit: one box, or those of the walk, which covers
+    one : (h : CollisionHit) → Few t (oneBox h)
+    one h = record { some-box = lit≤ tt; boxes = settings-accepted s c t e .some-box; waiting = zero-le }
 
-    walk-few : (a : Axis) → Few (bandDistance s (bandOf (measuredAs a c)))
+    walk-few : (a : Axis) → Few t (bandDistance s (bandOf (measuredAs a c)) t)
+    unfolding bandDistance
     walk-few a =
         let b = bandOf (measuredAs a c) in
-        let w = walk-covers s c [] f e a in
-        pick Few (b .radius ≼ e-15) (λ h. one (boxDistance s (thinBox b)))
-        (λ h. record { boxes = w .boxes; waiting = w .room })
+        let w = walk-covers s c [] (settingsTests t) tt f e t (settings-accepted s c t e) g a in
+        pick (Few t) (b .radius ≼ e-15) (λ h. one (boxDistance s (thinBox b)))
+        (λ h. record { some-box = w .some-box; boxes = w .boxes; waiting = w .room })
 
-    by : (a : Axis) → axis c ≡ a → Few (cylinderDistance s c)
-    by Axial i = rw i (one (boxDistance s (axialBox c)))
-    by AlongX i = rw i (walk-few AlongX)
-    by AlongY i = rw i (walk-few AlongY)
-    by Neither i = rw i (one (boxDistance s (axialBox c)))
+    few : Few t (cylinderDistance s c t)
+    unfolding cylinderDistance
+    few = by (axis c) refl
+      where
+        by : (a : Axis) → axis c ≡ a → Few t (cylinderDistance s c t)
+        by Axial i = rw i (one (boxDistance s (axialBox c)))
+        by AlongX i = rw i (walk-few AlongX)
+        by AlongY i = rw i (walk-few AlongY)
+        by Neither i = rw i (one (boxDistance s (axialBox c)))
 
-pub promised : (s : List Float) (c : Cylinder) → Each IsF64 (cylinderNumbers c) → OfValue (Promised s c) (cylinderAnswer s c)
-unfolding cylinderAnswer
-promised s c f =
-    of-reply (Promised s c) (refusal (cylinderTests s c [])) (cylinderDistance s c)
-    (λ e. record {
-      bounded = cylinder-bounded s c [] e;
-      few = few s c f e;
-      across = across s c [] f e;
-    })
+  pub promised : OfValue (Promised s c t) (cylinderAnswer s c t)
+  unfolding cylinderAnswer
+  promised =
+      of-reply (Promised s c t) (refusal (cylinderTests s c [] (settingsTests t))) (cylinderDistance s c t)
+      (λ e. record {
+        bounded = cylinder-bounded s c t e (settings-accepted s c t e);
+        few = few e;
+        across = across s c [] (settingsTests t) tt f e t (settings-accepted s c t e) g;
+      })

@@ -9,6 +9,8 @@ use Rattle.bands.specs.Axis.{axis}
 use Rattle.bands.specs.Band.{axialBox, bandOf, exchanged}
 use Rattle.walk.specs.Walk.{oneBox, bandDistance}
 use Rattle.bands.specs.declared.shapes.Cylinder.{Cylinder}
+use Rattle.settings.specs.Settings.{settingsTests}
+use Rattle.settings.specs.declared.shapes.Settings.{Settings}
 use Rattle.bands.specs.declared.shapes.Axis.{Axis}
 use Rattle.bands.specs.declared.shapes.Axis.the-variants.{Axial, AlongX, AlongY, Neither}
 use Rattle.walk.specs.declared.shapes.CountedHit.{CountedHit}
@@ -33,18 +35,18 @@ cylinderNumbers c = pointNumbers (c .a) ++ (pointNumbers (c .b) ++ (c .radius �
 abbrev pub cylinderOwn : Float → Axis → List Test
 cylinderOwn radius axis = radiusTests radius ++ ((11 when neither axis) ∷ [])
 
-abbrev pub cylinderTests : List Float → Cylinder → List Float → List Test
-cylinderTests s c extra = besideTests s (cylinderNumbers c) extra (cylinderOwn (c .radius) (axis c))
+abbrev pub cylinderTests : List Float → Cylinder → List Float → List Test → List Test
+cylinderTests s c extra settings = besideTests s (cylinderNumbers c) extra settings (cylinderOwn (c .radius) (axis c))
 
 -- by the axis; one along Y is measured as the radial one with x and y exchanged; what is neither axial nor radial is turned down
-unfoldable pub cylinderDistance : List Float → Cylinder → CountedHit
-cylinderDistance s c = by (axis c)
+unfoldable pub cylinderDistance : List Float → Cylinder → Settings → CountedHit
+cylinderDistance s c t = by (axis c)
   where
     by : Axis → CountedHit
     by Axial = oneBox (boxDistance s (axialBox c))
-    by AlongX = bandDistance s (bandOf c)
-    by AlongY = bandDistance s (bandOf (exchanged c))
+    by AlongX = bandDistance s (bandOf c) t
+    by AlongY = bandDistance s (bandOf (exchanged c)) t
     by Neither = oneBox (boxDistance s (axialBox c))
 
-unfoldable pub cylinderAnswer : List Float → Cylinder → Reply CountedHit
-cylinderAnswer s c = reply (refusal (cylinderTests s c [])) (cylinderDistance s c)
+unfoldable pub cylinderAnswer : List Float → Cylinder → Settings → Reply CountedHit
+cylinderAnswer s c t = reply (refusal (cylinderTests s c [] (settingsTests t))) (cylinderDistance s c t)

@@ -9,7 +9,7 @@ ghost use Rattle.cylinders.specs.Cylinders.{told, cylinderDistance, cyli
 ghost use Rattle.cylinders.specs.Promised.{Promised};
 ghost use Rattle.cylinders.specs.Steps.{Measurable};
 ghost use Rattle.profile.specs.Replies.{Answers};
-ghost use Rattle.walk.specs.Steps.{BandRoom};
+ghost use Rattle.walk.specs.Steps.{WalkableWith};
 use super::refusal::cylinder_refusal;
 use super::shapes::CountedAnswer;
 use bands::Axis;
@@ -18,6 +18,8 @@ use bands::RadialBand;
 use bands::axial_box;
 use bands::axis_of;
 use bands::exchanged;
+use settings::Settings;
+use settings::settings_refusal;
 use walk::CountedHit;
 use walk::band_distance;
 use walk::one_box;
@@ -29,35 +31,38 @@ fn query_axial(s: &[f64], c: Cylinder) -> CountedHit
     one_box(s, axial_box(c))
 }
 
-fn query_radial(s: &[f64], c: Cylinder) -> CountedHit
-    requires { ⌜ (3 ≤ count (now s)) × BandRoom (now s) (bandOf c) ⌝ }
-    ensures { λ r. ⌜ r ≡ bandDistance (now (s .entry)) (bandOf c) ⌝ }
+fn query_radial(s: &[f64], c: Cylinder, t: Settings) -> CountedHit
+    requires { ⌜ WalkableWith (now s) (bandOf c) t ⌝ }
+    ensures { λ r. ⌜ r ≡ bandDistance (now (s .entry)) (bandOf c) t ⌝ }
 {
-    band_distance(s, RadialBand::from_cylinder(c))
+    band_distance(s, RadialBand::from_cylinder(c), t)
 }
 
-pub fn cylinder_distance(s: &[f64], c: Cylinder, axis: Axis) -> CountedHit
-    requires { ⌜ Measurable (now s) c axis ⌝ }
-    ensures { λ r. ⌜ r ≡ cylinderDistance (now (s .entry)) c ⌝ }
+pub fn cylinder_distance(s: &[f64], c: Cylinder, axis: Axis, t: Settings) -> CountedHit
+    requires { ⌜ Measurable (now s) c axis t ⌝ }
+    ensures { λ r. ⌜ r ≡ cylinderDistance (now (s .entry)) c t ⌝ }
 {
     match axis {
         Axis::Axial => query_axial(s, c),
-        Axis::AlongX => query_radial(s, c),
-        Axis::AlongY => query_radial(s, exchanged(c)),
+        Axis::AlongX => query_radial(s, c, t),
+        Axis::AlongY => query_radial(s, exchanged(c), t),
         Axis::Neither => query_axial(s, c),
     }
 }
 
 // A hit with its counts and mark, or the number under which the call is turned down. It asks nothing
 // of the caller.
-pub fn query_cylinder(section: &[f64], cylinder: Cylinder) -> CountedAnswer
-    ensures { λ r. ⌜ (let s = now (section .entry) in Answers (told r) (cylinderAnswer s cylinder) (Promised s cylinder)) ⌝ }
+pub fn query_cylinder(section: &[f64], cylinder: Cylinder, settings: Settings) -> CountedAnswer
+    ensures { λ r. ⌜
+        (let s = now (section .entry) in
+        Answers (told r) (cylinderAnswer s cylinder settings) (Promised s cylinder settings))
+        ⌝ }
 {
     let axis = axis_of(cylinder);
     let none = [0.0; 0];
-    let number = cylinder_refusal(section, cylinder, axis, &none);
+    let number = cylinder_refusal(section, cylinder, axis, &none, settings_refusal(settings));
     if number != 0 {
         return CountedAnswer::Refused(number);
     }
-    CountedAnswer::Hit(cylinder_distance(section, cylinder, axis))
+    CountedAnswer::Hit(cylinder_distance(section, cylinder, axis, settings))
 }

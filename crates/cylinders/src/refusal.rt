@@ -23,12 +23,18 @@ fn own_refusal(radius: f64, axis: Axis) -> u32
     }
 }
 
-pub fn cylinder_refusal(s: &[f64], c: Cylinder, axis: Axis, extra: &[f64]) -> u32
+pub fn cylinder_refusal(s: &[f64], c: Cylinder, axis: Axis, extra: &[f64], settings: u32) -> u32
     requires { ⌜ axis ≡ axes.axis c ⌝ }
-    ensures { λ r. ⌜ Checked (now (s .entry)) c (now (extra .entry)) r ⌝ }
+    ensures { λ r. ⌜ Checked (now (s .entry)) c (now (extra .entry)) settings r ⌝ }
 {
     let a = c.a;
     let b = c.b;
     let numbers = [a.x, a.y, a.z, b.x, b.y, b.z, c.radius];
-    body_refusal(s, &numbers[..], extra, own_refusal(c.radius, axis))
+    body_refusal(
+        s,
+        &numbers[..],
+        extra,
+        settings,
+        own_refusal(c.radius, axis),
+    )
 }

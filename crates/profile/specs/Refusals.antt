@@ -76,8 +76,9 @@ boundsTests x = (10 when ((x .z1 ≺ x .z0) || (x .r1 ≺ x .r0))) ∷ []
 
 -- ---- the calls: a section, a body, and more numbers that are given with them
 
-abbrev pub besideTests : List Float → List Float → List Float → List Test → List Test
-besideTests s numbers extra own = givenTests (s ∷ []) (s ++ (numbers ++ extra)) ++ own
+-- then the tests of the call's settings, then the body's own
+abbrev pub besideTests : List Float → List Float → List Float → List Test → List Test → List Test
+besideTests s numbers extra settings own = givenTests (s ∷ []) (s ++ (numbers ++ extra)) ++ (settings ++ own)
 
 abbrev pub pointNumbers : Vec3 → List Float
 pointNumbers p = p .x ∷ p .y ∷ p .z ∷ []
@@ -89,13 +90,13 @@ abbrev pub boxNumbers : Aabb → List Float
 boxNumbers x = x .z0 ∷ x .z1 ∷ x .r0 ∷ x .r1 ∷ []
 
 abbrev pub pointTests : List Float → Vec3 → List Test
-pointTests s p = besideTests s (pointNumbers p) [] []
+pointTests s p = besideTests s (pointNumbers p) [] [] []
 
-abbrev pub sphereTests : List Float → Sphere → List Float → List Test
-sphereTests s b extra = besideTests s (sphereNumbers b) extra (radiusTests (b .radius))
+abbrev pub sphereTests : List Float → Sphere → List Float → List Test → List Test
+sphereTests s b extra settings = besideTests s (sphereNumbers b) extra settings (radiusTests (b .radius))
 
-abbrev pub boxTests : List Float → Aabb → List Float → List Test
-boxTests s x extra = besideTests s (boxNumbers x) extra (boundsTests x)
+abbrev pub boxTests : List Float → Aabb → List Float → List Test → List Test
+boxTests s x extra settings = besideTests s (boxNumbers x) extra settings (boundsTests x)
 
 abbrev pub convexTests : List Float → List Float → List Float → List Test
 convexTests c s extra = givenTests (c ∷ s ∷ []) (c ++ (s ++ extra))

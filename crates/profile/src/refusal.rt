@@ -3,7 +3,7 @@ ghost use mathlib.Core.Path.{_≡_};
 ghost use mathlib.Core.List.{[], _∷_, _++_};
 ghost use Rattle.profile.specs.Refusals as refusals;
 ghost use Rattle.profile.specs.Refusals.{refusal, anyOf};
-ghost use Rattle.profile.specs.Steps.{beyondLimit, orElse};
+ghost use Rattle.profile.specs.Steps.{beyondLimit, orElse, WithSettings};
 use super::shapes::Aabb;
 use super::shapes::Sphere;
 use arith::Vec3;
@@ -143,11 +143,13 @@ fn bounds_refusal(x: Aabb) -> u32
     if x.r1 < x.r0 { 10 } else { 0 }
 }
 
-// A section of 3 to 256 vertices, a body's numbers and more that are given, then the body's own number.
-pub fn body_refusal(s: &[f64], numbers: &[f64], extra: &[f64], own: u32) -> u32
+// A section of 3 to 256 vertices, a body's numbers and more that are given; then the number of the call's
+// settings, then the body's own.
+pub fn body_refusal(s: &[f64], numbers: &[f64], extra: &[f64], settings: u32, own: u32) -> u32
     ensures { λ r. ⌜
         (let l = now (s .entry) in
-        r ≡ orElse (refusal (refusals.givenTests (l ∷ []) (l ++ (now (numbers .entry) ++ now (extra .entry))))) own)
+        let given = refusals.givenTests (l ∷ []) (l ++ (now (numbers .entry) ++ now (extra .entry))) in
+        r ≡ orElse (refusal given) (orElse settings own))
         ⌝ }
 {
     let of_shape = shape_refusal(s, 3, 256);
@@ -158,6 +160,9 @@ pub fn body_refusal(s: &[f64], numbers: &[f64], extra: &[f64], own: u32) -> u32
     if of_numbers != 0 {
         return of_numbers;
     }
+    if settings != 0 {
+        return settings;
+    }
     own
 }
 
@@ -166,22 +171,22 @@ pub fn point_refusal(s: &[f64], p: Vec3) -> u32
 {
     let numbers = [p.x, p.y, p.z];
     let none = [0.0; 0];
-    body_refusal(s, &numbers[..], &none, 0)
+    body_refusal(s, &numbers[..], &none, 0, 0)
 }
 
-pub fn sphere_refusal(s: &[f64], b: Sphere, extra: &[f64]) -> u32
-    ensures { λ r. ⌜ r ≡ refusal (refusals.sphereTests (now (s .entry)) b (now (extra .entry))) ⌝ }
+pub fn sphere_refusal(s: &[f64], b: Sphere, extra: &[f64], settings: u32) -> u32
+    ensures { λ r. ⌜ WithSettings settings (refusals.sphereTests (now (s .entry)) b (now (extra .entry))) r ⌝ }
 {
     let c = b.center;
     let numbers = [c.x, c.y, c.z, b.radius];
-    body_refusal(s, &numbers[..], extra, radius_refusal(b.radius))
+    body_refusal(s, &numbers[..], extra, settings, radius_refusal(b.radius))
 }
 
-pub fn box_refusal(s: &[f64], x: Aabb, extra: &[f64]) -> u32
-    ensures { λ r. ⌜ r ≡ refusal (refusals.boxTests (now (s .entry)) x (now (extra .entry))) ⌝ }
+pub fn box_refusal(s: &[f64], x: Aabb, extra: &[f64], settings: u32) -> u32
+    ensures { λ r. ⌜ WithSettings settings (refusals.boxTests (now (s .entry)) x (now (extra .entry))) r ⌝ }
 {
     let numbers = [x.z0, x.z1, x.r0, x.r1];
-    body_refusal(s, &numbers[..], extra, bounds_refusal(x))
+    body_refusal(s, &numbers[..], extra, settings, bounds_refusal(x))
 }
 
 // Two lists of 3 to 256 vertices, and more numbers that are given.

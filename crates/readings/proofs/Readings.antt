@@ -28,6 +28,8 @@ use Rattle.bands.specs.Axis.{axisDir, axis}
 use Rattle.bands.specs.Band.{bar, axialBox, bandOf, halfWidth, spanAt}
 use Rattle.walk.specs.Pieces.{widest, narrowest, pieceBox, variation}
 use Rattle.walk.specs.Walk.{sampleVertex, sampled, walk, walkAll, bandDistance}
+use Rattle.settings.specs.Settings.{finest, settings}
+use Rattle.settings.specs.declared.shapes.Settings.{Settings}
 use Rattle.cylinders.specs.Cylinders.{cylinderDistance, cylinderAnswer}
 use Rattle.bands.specs.declared.shapes.Cylinder.{Cylinder}
 use Rattle.walk.specs.declared.shapes.CountedHit.{CountedHit}
@@ -50,6 +52,7 @@ pub data Row : Type 0 where
   sphere : Sphere → Reply CollisionHit → Row
   box : Aabb → Reply CollisionHit → Row
   cylinder : Cylinder → Reply CountedHit → Row
+  cylinderAt : Cylinder → Settings → Reply CountedHit → Row
   everywhere : List Float → Float → Row
   section : List Float → List Float → Reply ℕ → Row
   polygon : List Float → List Float → Reply ℕ → Row
@@ -59,7 +62,8 @@ Holds (keeps given kept) = sectionOf given ≡ kept
 Holds (point p a) = pointAnswer S p ≡ a
 Holds (sphere b a) = sphereAnswer S b ≡ a
 Holds (box x a) = boxAnswer S x ≡ a
-Holds (cylinder c a) = cylinderAnswer S c ≡ a
+Holds (cylinder c a) = cylinderAnswer S c finest ≡ a
+Holds (cylinderAt c t a) = cylinderAnswer S c t ≡ a
 Holds (everywhere given d) = (p : Vertex) → pointDistance (sectionOf given) p ≡ hit d (vertexAt (sectionOf given) 0)
 Holds (section given space a) = sectionAnswer given space ≡ a
 Holds (polygon given space a) = polygonAnswer given space ≡ a
@@ -125,6 +129,8 @@ readings =
     ∷ box (aabb (mm 5) (mm 4) (mm 0) (mm 5)) (turned-down 10)
     ∷ cylinder (bar (at 0 0 0) (at 1 0 1) (mm 1)) (turned-down 11)
     ∷ cylinder (bar (at 0 0 0) (at 1 1 0) (mm 1)) (turned-down 11)
+    -- a tolerance of 2 mm, along the spindle too
+    ∷ cylinderAt (bar (at 15 0 0) (at 15 0 30) (mm 2)) (settings (mm 2) 8192 16) (turned-down 18)
     -- the limit is taken, and a radius of -1e-9 is taken as 0
     ∷ section (mm 1048576 ∷ mm 10 ∷ mm 20 ∷ mm 10 ∷ []) (room 8) (value 8)
     ∷ keeps (mm 0 ∷ neg e-9 ∷ mm 20 ∷ mm 10 ∷ []) (mm 0 ∷ mm 0 ∷ mm 20 ∷ mm 10 ∷ mm 20 ∷ mm 0 ∷ mm 0 ∷ mm 0 ∷ [])
@@ -143,4 +149,4 @@ all-readings =
     let all-points : Holds (everywhere (mm 0 ∷ mm 0 ∷ mm 20 ∷ mm 0 ∷ []) ∞) = λ p. refl in
     refl and refl and refl and refl and refl and refl and refl and refl and refl and refl and refl and refl
     and refl and all-points and refl and refl and refl and refl and refl and refl and refl and refl and refl
-    and refl and refl and refl and refl and refl and refl and refl and end
+    and refl and refl and refl and refl and refl and refl and refl and refl and end

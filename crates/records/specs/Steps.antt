@@ -17,6 +17,7 @@ use Rattle.profile.specs.declared.shapes.Vertex.{Vertex}
 use Rattle.cylinders.specs.Promised.{Promised}
 use Rattle.cylinders.specs.Cylinders.{told as cylinderTold, cylinderAnswer}
 use Rattle.bands.specs.declared.shapes.Cylinder.{Cylinder}
+use Rattle.settings.specs.Settings.{finest}
 use Rattle.cylinders.specs.declared.shapes.CountedAnswer.{CountedAnswer}
 use Rattle.records.specs.Replies.{pointOf, sphereOf, boxOf, cylinderOf, cReply, cCylinderReply}
 use Rattle.records.specs.declared.replies.Ball.{Ball}
@@ -45,7 +46,7 @@ abbrev pub OfBox : Aabb → List Float → Answer → Type 0
 OfBox x s r = Answers (told r) (boxAnswer s x) Bounded
 
 abbrev pub OfCylinder : Cylinder → List Float → CountedAnswer → Type 0
-OfCylinder c s r = Answers (cylinderTold r) (cylinderAnswer s c) (Promised s c)
+OfCylinder c s r = Answers (cylinderTold r) (cylinderAnswer s c finest) (Promised s c finest)
 
 -- the same of the C interface's replies
 abbrev pub OfPlace : Place → List Float → Reply → Type 0
@@ -58,7 +59,7 @@ abbrev pub OfBounds : Bounds → List Float → Reply → Type 0
 OfBounds x s r = r ≡ cReply (boxAnswer s (boxOf x))
 
 abbrev pub OfBar : Bar → List Float → CylinderReply → Type 0
-OfBar x s r = r ≡ cCylinderReply (cylinderAnswer s (cylinderOf x))
+OfBar x s r = r ≡ cCylinderReply (cylinderAnswer s (cylinderOf x) finest)
 
 -- r keeps a promise on the first n vertices of l, and is the given refusal where there are more than 256
 pub record OfFront {R : Type 0} (P : List Float → R → Type 0) (refusal : R) (l : List Float) (n : ℕ) (r : R) : Type 0 where

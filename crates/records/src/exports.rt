@@ -4,6 +4,7 @@ ghost use mathlib.Core.Path.{_≡_};
 ghost use Rattle.profile.specs.Replies.{turned-down};
 ghost use Rattle.section.specs.Answers.{pointAnswer, sphereAnswer, boxAnswer};
 ghost use Rattle.cylinders.specs.Cylinders.{cylinderAnswer};
+ghost use Rattle.settings.specs.Settings.{finest};
 ghost use Rattle.records.specs.Flattened.{flattened};
 ghost use Rattle.records.specs.Replies.{pointOf, sphereOf, boxOf, cylinderOf, cReply, cCylinderReply};
 ghost use Rattle.records.specs.Steps.{OfFront, OfPlace, OfBall, OfBounds, OfBar};
@@ -100,7 +101,7 @@ fn cylinder_reply(items: &[f64; 512], n: usize, bar: Bar) -> CylinderReply
 
 #[no_mangle]
 pub extern "C" fn jorghipa_cylinder_of(section: &[Vertex], bar: Bar) -> CylinderReply
-    ensures { λ r. ⌜ r ≡ cCylinderReply (cylinderAnswer (flattened (now (section .entry))) (cylinderOf bar)) ⌝ }
+    ensures { λ r. ⌜ r ≡ cCylinderReply (cylinderAnswer (flattened (now (section .entry))) (cylinderOf bar) finest) ⌝ }
 {
     let mut items = blank();
     let n = section.len();

@@ -5,6 +5,7 @@ ghost use Rattle.section.specs.Answers.{told, pointAnswer, sphereAnswer, boxAns
 ghost use Rattle.section.specs.Demand.{Bounded, BoundedOffAxis};
 ghost use Rattle.cylinders.specs.Cylinders.{told as cylinderTold, cylinderAnswer};
 ghost use Rattle.cylinders.specs.Promised.{Promised};
+ghost use Rattle.settings.specs.Settings.{finest};
 ghost use Rattle.records.specs.Flattened.{flattened};
 ghost use Rattle.records.specs.Steps.{OfFront, OfPoint, OfSphere, OfBox, OfCylinder};
 ghost use Rattle.section.specs.declared.shapes.Answer.the-variants as answers;
@@ -97,12 +98,12 @@ pub fn cylinder_front(items: &[f64; 512], n: usize, cylinder: Cylinder) -> Count
     }
     let end = numbers_of(n);
     let all = &items[..];
-    cylinders::query_cylinder(&all[..end], cylinder)
+    cylinders::query_cylinder(&all[..end], cylinder, settings::finest())
 }
 
 pub fn query_cylinder_of(section: &[Vertex], cylinder: Cylinder) -> CountedAnswer
     ensures { λ r. ⌜ (let s = flattened (now (section .entry)) in
-        Answers (cylinderTold r) (cylinderAnswer s cylinder) (Promised s cylinder)) ⌝ }
+        Answers (cylinderTold r) (cylinderAnswer s cylinder finest) (Promised s cylinder finest)) ⌝ }
 {
     let mut items = blank();
     let n = section.len();

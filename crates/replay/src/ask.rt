@@ -4,6 +4,7 @@ ghost use mathlib.Core.Path.{_≡_};
 ghost use Prim.Native.Nat.{_≤_};
 ghost use lib.ListN.{length};
 ghost use Rattle.replay.specs.Replies.{kept};
+use super::bits::pattern;
 use super::table::Kind;
 use arith::Vec3;
 use bands::Cylinder;
@@ -12,6 +13,7 @@ use cylinders::CountedAnswer;
 use profile::Aabb;
 use profile::Sphere;
 use section::Answer;
+use settings::Settings;
 use verdicts::Verdict;
 
 // What every number of a builder's space is before the call.
@@ -58,6 +60,23 @@ fn cylinder(v: &[f64; 16]) -> Cylinder {
     let a = vector(v[0], v[1], v[2]);
     let b = vector(v[3], v[4], v[5]);
     Cylinder { a, b, radius: v[6] }
+}
+
+// The whole number whose pattern a number has; what is past a u32 counts as the largest.
+fn whole(x: f64) -> u32 {
+    let n = pattern(x);
+    if n <= 4294967295 {
+        return n as u32;
+    }
+    4294967295
+}
+
+fn settings(v: &[f64; 16]) -> Settings {
+    Settings {
+        tolerance: v[7],
+        most: whole(v[8]),
+        intervals: whole(v[9]),
+    }
 }
 
 fn hit(answer: Answer) -> Reply
@@ -151,7 +170,7 @@ fn plain(letter: u8, s: &[f64], t: &[f64], v: &[f64; 16], space: &mut [f64]) -> 
         b's' => hit(section::query_sphere(s, sphere(v))),
         b'b' => hit(section::aabb_polygon_distance(v[0], v[1], v[2], v[3], s)),
         b'c' => hit(section::convex_polygon_distance(s, t)),
-        b'y' => walked(cylinders::query_cylinder(s, cylinder(v))),
+        b'y' => walked(cylinders::query_cylinder(s, cylinder(v), settings::finest())),
         b'S' => {
             let part = builders::try_from_section(s, space).len();
             built(builders::write_section(s, space), part, space)
@@ -160,6 +179,7 @@ fn plain(letter: u8, s: &[f64], t: &[f64], v: &[f64; 16], space: &mut [f64]) -> 
             let part = builders::try_from_polygon(s, space).len();
             built(builders::write_polygon(s, space), part, space)
         }
+        b'w' => walked(cylinders::query_cylinder(s, cylinder(v), settings(v))),
         _ => Reply::Malformed,
     }
 }

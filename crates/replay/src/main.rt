@@ -13,6 +13,9 @@
 //     vs, vb, vc, vy            the verdict on such a body: the same fields, then the clearance
 //     S n points.. k            the builder of a section
 //     P n points.. k            the builder of a polygon
+//     w n s.. ax ay az bx by bz radius tolerance most intervals
+//                               the distance of a cylinder with settings; the digits of most and of
+//                               intervals are the whole number itself
 // A distance is replied with its witness's z and radius, a cylinder's also with how many boxes were
 // measured, how many pieces waited at most, and 1 where the walk was cut, else 0, in decimal; a
 // verdict with 1, a collision, or 0; a builder with the count of the numbers that it keeps, in

@@ -40,6 +40,7 @@ fn plain(letter: u8) -> Row
         b'y' => holds(1, 7, false),
         b'S' => holds(1, 0, true),
         b'P' => holds(1, 0, true),
+        b'w' => holds(1, 10, false),
         _ => holds(0, 0, false),
     }
 }

@@ -22,10 +22,10 @@ unfoldable pub pointAnswer : List Float → Vec3 → Reply CollisionHit
 pointAnswer s p = reply (refusal (pointTests s p)) (pointDistance s (meridian p))
 
 unfoldable pub sphereAnswer : List Float → Sphere → Reply CollisionHit
-sphereAnswer s b = reply (refusal (sphereTests s b [])) (sphereDistance s b)
+sphereAnswer s b = reply (refusal (sphereTests s b [] [])) (sphereDistance s b)
 
 unfoldable pub boxAnswer : List Float → Aabb → Reply CollisionHit
-boxAnswer s x = reply (refusal (boxTests s x [])) (boxDistance s x)
+boxAnswer s x = reply (refusal (boxTests s x [] [])) (boxDistance s x)
 
 unfoldable pub convexAnswer : List Float → List Float → Reply CollisionHit
 convexAnswer c s = reply (refusal (convexTests c s [])) (convexDistance c s)

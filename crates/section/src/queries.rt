@@ -32,7 +32,7 @@ pub fn query_sphere(section: &[f64], sphere: Sphere) -> Answer
     ensures { λ r. ⌜ (let s = now (section .entry) in Answers (told r) (sphereAnswer s sphere) (BoundedOffAxis s)) ⌝ }
 {
     let none = [0.0; 0];
-    let number = sphere_refusal(section, sphere, &none);
+    let number = sphere_refusal(section, sphere, &none, 0);
     if number != 0 {
         return Answer::Refused(number);
     }
@@ -44,7 +44,7 @@ pub fn aabb_polygon_distance(z0: f64, z1: f64, r0: f64, r1: f64, polygon: &[f64]
 {
     let x = Aabb { z0, z1, r0, r1 };
     let none = [0.0; 0];
-    let number = box_refusal(polygon, x, &none);
+    let number = box_refusal(polygon, x, &none, 0);
     if number != 0 {
         return Answer::Refused(number);
     }

@@ -42,8 +42,8 @@ unfolding bodyAnswer sphereAnswer boxAnswer
 body-answer-size b s k = go (isSphere b k)
   where
     go : (sphere : Bool) → length (answerText (cond sphere (sphereAnswer s (sphereAt b k)) (boxAnswer s (boxAt b k)))) ≤ 51
-    go true = answer-size _ _ (refusal-most 10 (sphereTests s (sphereAt b k) []) tt)
-    go false = answer-size _ _ (refusal-most 10 (boxTests s (boxAt b k) []) tt)
+    go true = answer-size _ _ (refusal-most 10 (sphereTests s (sphereAt b k) [] []) tt)
+    go false = answer-size _ _ (refusal-most 10 (boxTests s (boxAt b k) [] []) tt)
 
 line-size : (b : List ℕ) (s : List Float) (k : ℕ) → length (bodyLine b s k) ≤ 52 + length (decimal k)
 unfolding bodyLine text

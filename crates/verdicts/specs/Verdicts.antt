@@ -7,6 +7,7 @@ use Rattle.arith.specs.F64.{_⊕_, _≺_, e-9}
 use Rattle.profile.specs.Refusals.{refusal, convexTests}
 use Rattle.profile.specs.Replies.{Reply, value, turned-down, reply}
 use Rattle.convex.specs.Convex.{convexDistance}
+use Rattle.settings.specs.Settings.{finest}
 use Rattle.bodies.specs.Bodies.{bodyTests, bodyDistance}
 use Rattle.bodies.specs.declared.shapes.Body.{Body}
 use Rattle.verdicts.specs.declared.shapes.Verdict.{Verdict}
@@ -23,7 +24,7 @@ collides distance clearance = distance ⊕ e-9 ≺ clearance
 
 unfoldable pub bodyVerdict : List Float → Body → Float → Reply Bool
 bodyVerdict s b clearance =
-    reply (refusal (bodyTests s b (clearance ∷ []))) (collides (bodyDistance s b .hit .distance) clearance)
+    reply (refusal (bodyTests s b (clearance ∷ []) [])) (collides (bodyDistance s b finest .hit .distance) clearance)
 
 unfoldable pub convexVerdict : List Float → List Float → Float → Reply Bool
 convexVerdict c s clearance =

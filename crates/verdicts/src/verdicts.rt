@@ -17,6 +17,7 @@ use profile::Sphere;
 use profile::box_refusal;
 use profile::convex_refusal;
 use profile::sphere_refusal;
+use settings::finest;
 
 // A distance this much below the clearance is still a touch.
 const TOUCH_SLACK: f64 = 1e-9;
@@ -34,7 +35,7 @@ pub fn verdict_sphere(section: &[f64], sphere: Sphere, clearance: f64) -> Verdic
     ensures { λ r. ⌜ told r ≡ bodyVerdict (now (section .entry)) (body·kinds.Sphere sphere) clearance ⌝ }
 {
     let extra = [clearance];
-    let number = sphere_refusal(section, sphere, &extra[..]);
+    let number = sphere_refusal(section, sphere, &extra[..], 0);
     if number != 0 {
         return Verdict::Refused(number);
     }
@@ -45,7 +46,7 @@ pub fn verdict_box(section: &[f64], x: Aabb, clearance: f64) -> Verdict
     ensures { λ r. ⌜ told r ≡ bodyVerdict (now (section .entry)) (body·kinds.Box x) clearance ⌝ }
 {
     let extra = [clearance];
-    let number = box_refusal(section, x, &extra[..]);
+    let number = box_refusal(section, x, &extra[..], 0);
     if number != 0 {
         return Verdict::Refused(number);
     }
@@ -57,12 +58,14 @@ pub fn verdict_cylinder(section: &[f64], cylinder: Cylinder, clearance: f64) -> 
 {
     let axis = axis_of(cylinder);
     let extra = [clearance];
-    let number = cylinder_refusal(section, cylinder, axis, &extra[..]);
+    let number = cylinder_refusal(section, cylinder, axis, &extra[..], 0);
     if number != 0 {
         return Verdict::Refused(number);
     }
     judged(
-        cylinder_distance(section, cylinder, axis).hit.distance,
+        cylinder_distance(section, cylinder, axis, finest())
+            .hit
+            .distance,
         clearance,
     )
 }

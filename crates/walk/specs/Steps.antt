@@ -5,13 +5,13 @@ use mathlib.Core.List.{List, [], _∷_}
 use mathlib.Core.Path.{_≡_}
 use lib.ListN.{length, getD}
 use lib.Ieee.{Float, nan}
-use Rattle.arith.specs.F64.{e-9}
 use Rattle.profile.specs.Vertices.{count, nearestOf}
 use Rattle.points.specs.Points.{pointDistance}
 use Rattle.profile.specs.declared.shapes.CollisionHit.{CollisionHit}
 use Rattle.walk.specs.Pieces.{piece, variation}
 use Rattle.walk.specs.Walk.{sampleVertex, boxHit, walkAll}
 use Rattle.bands.specs.declared.shapes.RadialBand.{RadialBand}
+use Rattle.settings.specs.declared.shapes.Settings.{Settings}
 use Rattle.walk.specs.declared.shapes.Piece.{Piece}
 use Rattle.walk.specs.declared.shapes.Measured.{Measured}
 
@@ -32,8 +32,8 @@ pub record Walkable (s : List Float) (b : RadialBand) (tol : Float) (cap n : ℕ
   pub samples : n ≤ 64
   pub room : Room s b tol cap n
 
-abbrev pub BandRoom : List Float → RadialBand → Type 0
-BandRoom s b = Room s b e-9 8192 16
+abbrev pub WalkableWith : List Float → RadialBand → Settings → Type 0
+WalkableWith s b t = Walkable s b (t .tolerance) (t .most) (t .intervals)
 
 -- the first n pieces of the flat array of start and end, the last one first
 unfoldable pub pieces : List Float → ℕ → List Piece

@@ -1,12 +1,12 @@
--- 01's walk over the pieces of a cylinder across the spindle. The tolerance is 1e-9, the cap 8,192 and the number n of sample
--- intervals 16 in document 01.
+-- 01's walk over the pieces of a cylinder across the spindle, with 02's settings in the places of 01's numbers: the agreement
+-- tolerance for 1e-9, the most boxes for 8,192, the number n of sampling intervals for 16.
 use Prim.Native.Nat.{ℕ, zero, suc, _+_, max as maxℕ}
 use mathlib.Core.Bool.{Bool, true, false, not, _&&_, cond}
 use mathlib.Core.List.{List, [], _∷_}
 use lib.ListN.{length}
 use lib.IntN.{pos}
 use lib.Ieee.{Float, binary64, ofInt}
-use Rattle.arith.specs.F64.{_⊕_, _⊖_, _⊗_, _⊘_, _≺_, _≼_, 𝟘, ∞, e-9, e-12, e-15}
+use Rattle.arith.specs.F64.{_⊕_, _⊖_, _⊗_, _⊘_, _≺_, _≼_, 𝟘, ∞, e-12, e-15}
 use Rattle.arith.specs.Num.{min}
 use Rattle.profile.specs.Vertices.{vertex, hit, upto, nearer, nearestOf}
 use Rattle.points.specs.Points.{pointDistance}
@@ -17,6 +17,7 @@ use Rattle.profile.specs.declared.shapes.Aabb.{Aabb}
 use Rattle.bands.specs.Band.{mean, halfWidth, spanAt}
 use Rattle.walk.specs.Pieces.{piece, wholeWidth, pieceBox, variation}
 use Rattle.bands.specs.declared.shapes.RadialBand.{RadialBand}
+use Rattle.settings.specs.declared.shapes.Settings.{Settings}
 use Rattle.walk.specs.declared.shapes.Piece.{Piece}
 use Rattle.walk.specs.declared.shapes.CountedHit.{CountedHit}
 
@@ -120,6 +121,10 @@ module _ (s : List Float) (b : RadialBand) where
     unfoldable pub walkAll : ℕ → ℕ → Walk
     walkAll cap n = walk cap (wholeWidth b ∷ []) (start (sampled n))
 
+-- the walk with these settings
+abbrev pub walkWith : List Float → RadialBand → Settings → Walk
+walkWith s b t = walkAll s b (t .tolerance) (t .most) (t .intervals)
+
 -- uncut gives best, cut gives the least box distance; the witness is best's either way
 abbrev pub reported : Walk → Float
 reported w = cond (w .cut) (w .least) (w .best .distance)
@@ -137,6 +142,6 @@ abbrev pub thinBox : RadialBand → Aabb
 thinBox b = let r = spanAt b 𝟘 in record { z0 = b .zc; z1 = b .zc; r0 = r .lo; r1 = r .hi }
 
 -- 01's `band_distance`
-unfoldable pub bandDistance : List Float → RadialBand → CountedHit
-bandDistance s b =
-    cond (b .radius ≼ e-15) (oneBox (boxDistance s (thinBox b))) (walked (walkAll s b e-9 8192 16))
+unfoldable pub bandDistance : List Float → RadialBand → Settings → CountedHit
+bandDistance s b t =
+    cond (b .radius ≼ e-15) (oneBox (boxDistance s (thinBox b))) (walked (walkWith s b t))

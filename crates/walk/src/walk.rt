@@ -6,7 +6,7 @@ ghost use Rattle.arith.specs.F64.{_≺_};
 ghost use Rattle.profile.specs.Vertices.{count, hit};
 ghost use Rattle.boxes.specs.Boxes.{boxDistance};
 ghost use Rattle.walk.specs.Walk as walk;
-ghost use Rattle.walk.specs.Steps.{Walkable, BandRoom};
+ghost use Rattle.walk.specs.Steps.{Walkable, WalkableWith};
 use super::pieces::measure;
 use super::pieces::whole_width;
 use super::samples::sampled;
@@ -20,15 +20,7 @@ use boxes::box_distance;
 use profile::Aabb;
 use profile::CollisionHit;
 use profile::nearer_of;
-
-// Agreement required between the bounds.
-const BAND_TOL: f64 = 1e-9;
-
-// Most boxes of one walk.
-const MAX_BAND_STEPS: usize = 8192;
-
-// Intervals between the samples.
-const SAMPLES: usize = 16;
+use settings::Settings;
 
 fn dropped(m: CollisionHit, best: CollisionHit) -> bool
     ensures { λ r. ⌜ r ≡ walk.dropped m best ⌝ }
@@ -151,12 +143,12 @@ fn thin_box(b: RadialBand) -> Aabb
     }
 }
 
-pub fn band_distance(s: &[f64], b: RadialBand) -> CountedHit
-    requires { ⌜ (3 ≤ count (now s)) × BandRoom (now s) b ⌝ }
-    ensures { λ r. ⌜ r ≡ walk.bandDistance (now (s .entry)) b ⌝ }
+pub fn band_distance(s: &[f64], b: RadialBand, t: Settings) -> CountedHit
+    requires { ⌜ WalkableWith (now s) b t ⌝ }
+    ensures { λ r. ⌜ r ≡ walk.bandDistance (now (s .entry)) b t ⌝ }
 {
     if b.radius <= 1e-15 {
         return one_box(s, thin_box(b));
     }
-    walk_with(s, b, BAND_TOL, MAX_BAND_STEPS, SAMPLES)
+    walk_with(s, b, t.tolerance, t.most as usize, t.intervals as usize)
 }

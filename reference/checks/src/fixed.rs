@@ -1,9 +1,10 @@
 //! The fixed list: queries of every kind and every refusal, from a seed, with the Rust's answers (or the table's).
 
-use crate::query::{Answer, Kind, Query};
+use crate::query::{Answer, Kind, Query, numbers_of};
 use crate::random::Random;
 use crate::{generate, judge, near};
 use std::collections::BTreeMap;
+use table::{FINEST, Settings};
 
 /// Accepted queries of each kind that are drawn at random, fewer for verdicts, and queries at each threshold.
 const RANDOM: usize = 280;
@@ -28,6 +29,7 @@ pub fn refusals(kind: Kind) -> &'static [u32] {
         Kind::Section => &[1, 2, 3, 4, 5, 6, 7, 8],
         Kind::Polygon => &[1, 2, 3, 4, 5, 7, 8],
         Kind::Cylinder | Kind::VerdictCylinder => &[1, 2, 3, 4, 5, 9, 11],
+        Kind::SetCylinder => &[1, 2, 3, 4, 5, 9, 11, 18],
     }
 }
 
@@ -72,7 +74,29 @@ fn readings() -> Vec<Query> {
     let bar = |clearance| query(Kind::VerdictCylinder, &[12.0, 0.0, 10.0, 30.0, 0.0, 10.0, 2.0, clearance]);
     all.extend([2.0, 2.0 + 2e-9].map(bar));
     all.push(query(Kind::VerdictCylinder, &[0.0, 0.0, 0.0, 1.0, 0.0, 1.0, -1.0, f64::NAN]));
+    all.extend(settings().map(|(body, set)| query(Kind::SetCylinder, &[body.as_slice(), &numbers_of(set)].concat())));
     all
+}
+
+/// Cylinders beside S, along the spindle and across it both ways, a line, one that is turned down; each at the edges of the
+/// ranges of the settings, one step outside, and at what is no number.
+fn settings() -> impl Iterator<Item = ([f64; 7], Settings)> {
+    let bodies = [
+        [15.0, 0.0, 0.0, 15.0, 0.0, 30.0, 2.0],
+        [12.0, 3.0, 22.0, 30.0, 3.0, 22.0, 1.0],
+        [3.0, 12.0, 22.0, 3.0, 30.0, 22.0, 1.0],
+        [12.0, 0.0, 10.0, 30.0, 0.0, 10.0, 1e-15],
+        [0.0, 0.0, 0.0, 1.0, 0.0, 1.0, -1.0],
+    ];
+    let tolerances = [1e-9f64.next_down(), 1e-9f64.next_up(), 1f64.next_down(), 1.0, 1f64.next_up(), f64::NAN]
+        .into_iter()
+        .chain([f64::INFINITY, f64::NEG_INFINITY, 0.0, -0.0, 5e-324, -1e-9, 0.01])
+        .map(|tolerance| Settings { tolerance, ..FINEST });
+    let mosts = [0, 1, 2, 3, 8191, 8193, u32::MAX].map(|most| Settings { most, ..FINEST });
+    let intervals = [0, 1, 2, 3, 15, 17, 63, 64, 65, u32::MAX].map(|intervals| Settings { intervals, ..FINEST });
+    let coarse = Settings { tolerance: 0.01, most: 64, intervals: 4 };
+    let all: Vec<Settings> = tolerances.chain(mosts).chain(intervals).chain([FINEST, coarse]).collect();
+    bodies.into_iter().flat_map(move |body| all.clone().into_iter().map(move |set| (body, set)))
 }
 
 /// Cylinders beside S: document 01's readings and examples of walks, cut and uncut; then lengths of nothing, or whose
@@ -135,7 +159,7 @@ fn shares(kind: Kind) -> (usize, usize, usize) {
     match kind {
         Kind::Sqrt | Kind::Hypot => (RANDOM, 0, 0),
         Kind::Point | Kind::Sphere | Kind::Box | Kind::Convex | Kind::Section | Kind::Polygon => (RANDOM, 1, 0),
-        Kind::Cylinder => (RANDOM, 0, CUT),
+        Kind::Cylinder | Kind::SetCylinder => (RANDOM, 0, CUT),
         Kind::VerdictSphere | Kind::VerdictBox | Kind::VerdictCylinder | Kind::VerdictConvex => (VERDICTS, 0, 0),
     }
 }

@@ -1,6 +1,8 @@
-//! The expected answer: numbers from the table, all else from the published Rust with the exact hypot.
+//! The expected answer: numbers from the table, all else from the published Rust with the exact hypot; of a cylinder with
+//! settings from the second implementation of the walk, which at the finest has to agree with the Rust.
 
 use crate::query::{Answer, FILL, Kind, Query};
+use crate::walk::{self, Walked};
 use revolve_exact::probe::{self, Hit};
 use revolve_exact::{RevolvedSolid, Sphere, Vec3, aabb_polygon_distance, convex_polygon_distance};
 use revolve_traced as traced;
@@ -33,11 +35,12 @@ fn accepted(query: &Query) -> Result<(), u32> {
         Kind::Convex => table::convex(list(0), list(1), &[]),
         Kind::Section => table::build_section(list(0), &space(query)).map(|_| ()),
         Kind::Polygon => table::build_polygon(list(0), &space(query)).map(|_| ()),
-        Kind::Cylinder => table::cylinder(list(0), query.array(), &[]),
+        Kind::Cylinder => table::cylinder(list(0), query.array(), table::FINEST, &[]),
         Kind::VerdictSphere => table::sphere(list(0), query.array(), &query.numbers[4..]),
         Kind::VerdictBox => table::aabb(list(0), query.array(), &query.numbers[4..]),
-        Kind::VerdictCylinder => table::cylinder(list(0), query.array(), &query.numbers[7..]),
+        Kind::VerdictCylinder => table::cylinder(list(0), query.array(), table::FINEST, &query.numbers[7..]),
         Kind::VerdictConvex => table::convex(list(0), list(1), &query.numbers),
+        Kind::SetCylinder => table::cylinder(list(0), query.array(), query.settings(), &[]),
     }
 }
 
@@ -52,15 +55,30 @@ fn answer(query: &Query) -> Option<Answer> {
         Kind::Section => built(query, table::build_section, RevolvedSolid::try_from_section),
         Kind::Polygon => built(query, table::build_polygon, RevolvedSolid::try_from_polygon),
         Kind::Cylinder => {
-            let ((distance, witness), trace) = cylinder(query)?;
-            let counts = [trace.boxes, trace.waiting, u32::from(trace.cut)];
-            Some(Answer::Walked([distance, witness.0, witness.1], counts))
+            let (hit, trace) = cylinder(query)?;
+            Some(walked(Walked { hit, boxes: trace.boxes, waiting: trace.waiting, cut: trace.cut }))
         }
         Kind::VerdictSphere => verdict(query, sphere(query)?.0),
         Kind::VerdictBox => verdict(query, aabb(query)?.0),
         Kind::VerdictCylinder => verdict(query, cylinder(query)?.0.0),
         Kind::VerdictConvex => verdict(query, convex(query)?.0),
+        Kind::SetCylinder => set_cylinder(query),
     }
+}
+
+fn walked(walked: Walked) -> Answer {
+    let (distance, witness) = walked.hit;
+    Answer::Walked([distance, witness.0, witness.1], [walked.boxes, walked.waiting, u32::from(walked.cut)])
+}
+
+fn set_cylinder(query: &Query) -> Option<Answer> {
+    let vertices = vertices(&query.lists[0]);
+    let second = walked(walk::cylinder(&walk::Section::new(&vertices), query.array(), query.settings())?);
+    if query.settings() == table::FINEST {
+        let rust = answer(&Query::new(Kind::Cylinder, &query.lists, &query.numbers[..7]))?;
+        assert!(second.same(&rust), "the two walks differ: {}", query.line());
+    }
+    Some(second)
 }
 
 fn values((distance, (witness_z, witness_radius)): Hit) -> Answer {
@@ -139,5 +157,6 @@ fn rust_refuses(query: &Query, number: u32) -> bool {
         Kind::Cylinder => number != 11 || cylinder(query).is_none(),
         Kind::Sqrt | Kind::Hypot | Kind::Point | Kind::Convex => true,
         Kind::VerdictSphere | Kind::VerdictBox | Kind::VerdictCylinder | Kind::VerdictConvex => true,
+        Kind::SetCylinder => number != 11 || cylinder(query).is_none(),
     }
 }

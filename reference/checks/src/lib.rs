@@ -10,5 +10,6 @@ pub mod port;
 pub mod query;
 pub mod root_cases;
 pub mod shrink;
+pub mod walk;
 
 pub use random;

@@ -3,7 +3,7 @@
 
 use crate::judge;
 use crate::query::{Answer, Kind, Query};
-use jorghipa::{Aabb, Cylinder, CylinderHit, Hit, Point, Refusal, Sphere, raw};
+use jorghipa::{Aabb, Cylinder, CylinderHit, Hit, Point, Refusal, Settings, Sphere, raw};
 
 pub fn answer(query: &Query) -> Answer {
     let answer = flat(query);
@@ -29,11 +29,15 @@ fn flat(query: &Query) -> Answer {
         Kind::Polygon => {
             built(query, |points, space| Ok(jorghipa::build_polygon(points, space)?.len()), raw::jorghipa_build_polygon)
         }
-        Kind::Cylinder => cylinder(query),
+        Kind::Cylinder => cylinder(query, Settings::FINEST),
         Kind::VerdictSphere => verdict_sphere(query),
         Kind::VerdictBox => verdict_box(query),
         Kind::VerdictCylinder => verdict_cylinder(query),
         Kind::VerdictConvex => verdict_convex(query),
+        Kind::SetCylinder => {
+            let table::Settings { tolerance, most, intervals } = query.settings();
+            cylinder(query, Settings { tolerance, most, intervals })
+        }
     }
 }
 
@@ -117,11 +121,14 @@ fn convex(query: &Query) -> Answer {
     })
 }
 
-fn cylinder(query: &Query) -> Answer {
+fn cylinder(query: &Query, settings: Settings) -> Answer {
     let ((list, count), [ax, ay, az, bx, by, bz, radius]) = (lent(query, 0), query.array());
-    let result = jorghipa::cylinder(&query.lists[0], bar(query)).map(walked);
+    let result = jorghipa::cylinder(&query.lists[0], bar(query), settings).map(walked);
+    let Settings { tolerance, most, intervals } = settings;
     told(result, |[d, wz, wr], [boxes, waiting, cut]| unsafe {
-        raw::jorghipa_cylinder(list, count, ax, ay, az, bx, by, bz, radius, d, wz, wr, boxes, waiting, cut)
+        raw::jorghipa_cylinder(
+            list, count, ax, ay, az, bx, by, bz, radius, tolerance, most, intervals, d, wz, wr, boxes, waiting, cut,
+        )
     })
 }
 
@@ -187,6 +194,7 @@ mod records {
             Kind::Cylinder => |section, query| jorghipa::cylinder_of(section, bar(query)).map(walked),
             Kind::Sqrt | Kind::Hypot | Kind::Convex | Kind::Section | Kind::Polygon => return None,
             Kind::VerdictSphere | Kind::VerdictBox | Kind::VerdictCylinder | Kind::VerdictConvex => return None,
+            Kind::SetCylinder => return None,
         };
         let list = query.lists.first().filter(|list| list.len() % 2 == 0)?;
         let section: Vec<Vertex> = list.chunks_exact(2).map(|v| Vertex { z: v[0], radius: v[1] }).collect();

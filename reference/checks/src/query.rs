@@ -1,6 +1,7 @@
 //! A query and an answer, and their lines in the fixed list.
 
 use std::fmt::Write;
+use table::Settings;
 
 /// Every kind, its letters in the list, how many lists it takes and how many numbers after them.
 macro_rules! kinds {
@@ -28,6 +29,7 @@ kinds![
     (VerdictBox, "vb", 1, 5),
     (VerdictCylinder, "vy", 1, 8),
     (VerdictConvex, "vc", 2, 1),
+    (SetCylinder, "w", 1, 10),
 ];
 
 impl Kind {
@@ -43,7 +45,7 @@ impl Kind {
         match self {
             Kind::Section | Kind::Polygon => true,
             Kind::Sqrt | Kind::Hypot => false,
-            Kind::Point | Kind::Sphere | Kind::Box | Kind::Convex | Kind::Cylinder => false,
+            Kind::Point | Kind::Sphere | Kind::Box | Kind::Convex | Kind::Cylinder | Kind::SetCylinder => false,
             Kind::VerdictSphere | Kind::VerdictBox | Kind::VerdictCylinder | Kind::VerdictConvex => false,
         }
     }
@@ -56,7 +58,7 @@ impl Kind {
             Kind::VerdictCylinder => Some(Kind::Cylinder),
             Kind::VerdictConvex => Some(Kind::Convex),
             Kind::Sqrt | Kind::Hypot | Kind::Section | Kind::Polygon => None,
-            Kind::Point | Kind::Sphere | Kind::Box | Kind::Convex | Kind::Cylinder => None,
+            Kind::Point | Kind::Sphere | Kind::Box | Kind::Convex | Kind::Cylinder | Kind::SetCylinder => None,
         }
     }
 }
@@ -89,6 +91,14 @@ impl Query {
         self.numbers[..N].try_into().expect("a query has its kind's numbers")
     }
 
+    /// The settings that stand behind a cylinder. A whole number is the f64 with its bits.
+    pub fn settings(&self) -> Settings {
+        let [tolerance, most, intervals] =
+            self.numbers[7..].try_into().expect("only a cylinder with settings has them");
+        let whole = |x: f64| u32::try_from(x.to_bits()).unwrap_or(u32::MAX);
+        Settings { tolerance, most: whole(most), intervals: whole(intervals) }
+    }
+
     pub fn line(&self) -> String {
         let mut line = String::from(self.kind.letters());
         for list in &self.lists {
@@ -119,6 +129,12 @@ impl Query {
         }
         fields.next().is_none().then_some(query)
     }
+}
+
+/// The numbers that settings stand for in a query.
+pub fn numbers_of(settings: Settings) -> [f64; 3] {
+    let pattern = |n: u32| f64::from_bits(u64::from(n));
+    [settings.tolerance, pattern(settings.most), pattern(settings.intervals)]
 }
 
 fn push(line: &mut String, bits: u64) {
@@ -244,6 +260,7 @@ mod tests {
             Query::new(Kind::Hypot, &[], &[1.0, f64::NAN]),
             Query::new(Kind::Convex, &[list.clone(), vec![2.0; 300]], &[]),
             Query::new(Kind::Box, std::slice::from_ref(&list), &[1.0, 2.0, 3.0, 4.0]),
+            Query::new(Kind::SetCylinder, std::slice::from_ref(&list), &[0.5; 10]),
             Query::builder(Kind::Polygon, list, 12),
         ] {
             let line = query.line();
@@ -252,6 +269,15 @@ mod tests {
         assert!(Query::parse("r 0").is_some());
         assert!(Query::parse("r").is_none());
         assert!(Query::parse("r 0 0").is_none());
+    }
+
+    #[test]
+    fn settings_are_read_back() {
+        let settings = Settings { tolerance: 0.01, most: 64, intervals: 4 };
+        let numbers = [[1.0; 7].as_slice(), &numbers_of(settings)].concat();
+        let query = Query::new(Kind::SetCylinder, &[vec![0.0; 6]], &numbers);
+        assert!(query.line().ends_with(" 3f847ae147ae147b 0000000000000040 0000000000000004"));
+        assert_eq!(Query::parse(&query.line()).unwrap().settings(), settings);
     }
 
     #[test]

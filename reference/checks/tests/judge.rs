@@ -5,6 +5,7 @@ use checks::generate;
 use checks::judge::{expected, vertices};
 use checks::query::{Answer, Kind, Query};
 use checks::random::Random;
+use checks::walk;
 use revolve_exact::{Sphere, Vec3, probe};
 use revolve_traced as traced;
 use std::collections::BTreeSet;
@@ -96,4 +97,52 @@ fn the_fixed_list_has_every_kind_and_every_refusal() {
     for query in &queries {
         assert_eq!(Query::parse(&query.line()).unwrap().line(), query.line());
     }
+}
+
+/// The second implementation of the walk at the finest settings: distance, witness, counts and mark are the traced Rust's.
+#[test]
+fn both_walks_at_the_finest() {
+    let mut random = Random::new(8, 0);
+    let (mut walked, mut cut) = (0, 0);
+    for round in 0..4000 {
+        let mut query = generate::drawn(&mut random, Kind::Cylinder);
+        if round % 4 == 0 {
+            // Across the spindle, of hardly any width or an ordinary one, and along Y too.
+            let [x, y, z, ..] = query.array::<7>();
+            let (length, radius) = (random.pick(&[0.25, 8.0, 40.0]), random.pick(&[2f64.powi(-30), 1e-7, 0.5, 4.0]));
+            let ends = if round % 8 == 0 { [x + length, y, z] } else { [x, y + length, z] };
+            query.numbers = [[x, y, z], ends].concat();
+            query.numbers.push(radius);
+        }
+        let vertices = vertices(&query.lists[0]);
+        let second = walk::cylinder(&walk::Section::new(&vertices), query.array(), table::FINEST);
+        let rust = expected(&query);
+        let second = second.map(|walked| {
+            let (distance, witness) = walked.hit;
+            Answer::Walked([distance, witness.0, witness.1], [walked.boxes, walked.waiting, u32::from(walked.cut)])
+        });
+        match second {
+            Some(answer) => assert!(answer.same(&rust), "{}: {} and {}", query.line(), answer.line(), rust.line()),
+            None => assert!(matches!(rust, Answer::Refused(11)), "{}", query.line()),
+        }
+        walked += u32::from(rust.walked());
+        cut += u32::from(rust.cut());
+    }
+    assert!(walked > 500 && cut > 100 && walked > cut, "{walked} walked, {cut} cut");
+}
+
+#[test]
+fn settings() {
+    let across = [12.0, 3.0, 22.0, 30.0, 3.0, 22.0, 1.0];
+    let counts = |tolerance, most, intervals| {
+        let section = vertices(&S);
+        let settings = table::Settings { tolerance, most, intervals };
+        walk::cylinder(&walk::Section::new(&section), across, settings)
+            .map(|walked| (walked.boxes, walked.cut))
+            .unwrap()
+    };
+    assert_eq!(counts(1e-9, 8192, 16), (8192, true));
+    assert_eq!(counts(1e-9, 1, 16), (1, true));
+    assert_eq!(counts(1.0, 1, 16), (1, false));
+    assert_eq!(counts(1.0, 8192, 1), (1, false));
 }

@@ -1,4 +1,4 @@
-//! Document 01's table of refusals, numbers 1 to 11, and its builder rules, written from its text.
+//! Document 01's table of refusals, numbers 1 to 11, with request (vi)'s 18, and its builder rules, written from their text.
 //! Each call has one list of tests, written in the order in which it tests: the first that is true gives the number.
 
 mod builder;
@@ -59,10 +59,28 @@ pub fn convex(convex: &[f64], section: &[f64], more: &[f64]) -> Result<(), u32> 
     first(&[&vertices(&[convex, section]), &numbers(&[convex, section, more])])
 }
 
-/// The body is ax, ay, az, bx, by, bz, radius.
-pub fn cylinder(section: &[f64], body: [f64; 7], more: &[f64]) -> Result<(), u32> {
+/// Request (vi)'s settings of the walk.
+#[derive(Clone, Copy, Debug, PartialEq)]
+pub struct Settings {
+    pub tolerance: f64,
+    pub most: u32,
+    pub intervals: u32,
+}
+
+/// Document 01's numbers, which a call keeps whose request does not name the settings.
+pub const FINEST: Settings = Settings { tolerance: 1e-9, most: 8192, intervals: 16 };
+
+/// 18: a setting out of range or not finite.
+fn range(settings: Settings) -> Test {
+    let Settings { tolerance, most, intervals } = settings;
+    let within = (1e-9..=1.0).contains(&tolerance) && (1..=8192).contains(&most) && (1..=64).contains(&intervals);
+    (18, !within)
+}
+
+/// The body is ax, ay, az, bx, by, bz, radius. 18 comes right after 5, which does not look at the settings.
+pub fn cylinder(section: &[f64], body: [f64; 7], settings: Settings, more: &[f64]) -> Result<(), u32> {
     let own = [(9, body[6] < 0.0), (11, axis(body).is_none())];
-    first(&[&vertices(&[section]), &numbers(&[section, &body, more]), &own])
+    first(&[&vertices(&[section]), &numbers(&[section, &body, more]), &[range(settings)], &own])
 }
 
 /// The directions that the axis test tells apart: along the spindle, and across it along X or, by request (iv), Y.
@@ -113,13 +131,13 @@ mod tests {
         assert_eq!(sphere(&S, [0.0, 0.0, 0.0, -1.0], &[]), Err(9));
         assert_eq!(sphere(&S, [0.0, 0.0, 0.0, -0.0], &[]), Ok(()));
         assert_eq!(aabb(&S, [5.0, 4.0, 0.0, 1.0], &[]), Err(10));
-        assert_eq!(cylinder(&S, [0.0, 0.0, 0.0, 1.0, 0.0, 1.0, 1.0], &[]), Err(11));
-        assert_eq!(cylinder(&S, [0.0, 0.0, 0.0, 0.0, 0.0, 0.0, 1.0], &[]), Ok(()));
-        assert_eq!(cylinder(&S, [0.0, 0.0, 0.0, 1e-320, 0.0, 0.0, 1.0], &[]), Err(11));
-        assert_eq!(cylinder(&S, [0.0, 0.0, 0.0, 1e-320, 0.0, 5e-324, 1.0], &[]), Ok(()));
-        assert_eq!(cylinder(&S, [0.0, 0.0, 0.0, 0.0, 1.0, 0.0, 1.0], &[]), Ok(()));
-        assert_eq!(cylinder(&S, [0.0, 0.0, 0.0, 1.0, 1.0, 0.0, 1.0], &[]), Err(11));
-        assert_eq!(cylinder(&S, [0.0, 0.0, 0.0, 0.0, 1e-320, 0.0, 1.0], &[]), Err(11));
+        assert_eq!(cylinder(&S, [0.0, 0.0, 0.0, 1.0, 0.0, 1.0, 1.0], FINEST, &[]), Err(11));
+        assert_eq!(cylinder(&S, [0.0, 0.0, 0.0, 0.0, 0.0, 0.0, 1.0], FINEST, &[]), Ok(()));
+        assert_eq!(cylinder(&S, [0.0, 0.0, 0.0, 1e-320, 0.0, 0.0, 1.0], FINEST, &[]), Err(11));
+        assert_eq!(cylinder(&S, [0.0, 0.0, 0.0, 1e-320, 0.0, 5e-324, 1.0], FINEST, &[]), Ok(()));
+        assert_eq!(cylinder(&S, [0.0, 0.0, 0.0, 0.0, 1.0, 0.0, 1.0], FINEST, &[]), Ok(()));
+        assert_eq!(cylinder(&S, [0.0, 0.0, 0.0, 1.0, 1.0, 0.0, 1.0], FINEST, &[]), Err(11));
+        assert_eq!(cylinder(&S, [0.0, 0.0, 0.0, 0.0, 1e-320, 0.0, 1.0], FINEST, &[]), Err(11));
     }
 
     #[test]
@@ -134,6 +152,29 @@ mod tests {
         }
         // Where they do not ascend, the order decides.
         assert_eq!(first(&[&[(5, false), (18, true), (6, true)]]), Err(18));
+    }
+
+    #[test]
+    fn settings_between_5_and_9() {
+        let along = [15.0, 0.0, 0.0, 15.0, 0.0, 30.0, 2.0];
+        let bad = Settings { most: 0, ..FINEST };
+        let taken = |tolerance, most, intervals| cylinder(&S, along, Settings { tolerance, most, intervals }, &[]);
+        assert_eq!(taken(1e-9, 1, 1), Ok(()));
+        assert_eq!(taken(1.0, 8192, 64), Ok(()));
+        for tolerance in [1e-9f64.next_down(), 1f64.next_up(), 0.0, -0.0, 5e-324, -1.0, f64::INFINITY, f64::NAN] {
+            assert_eq!(taken(tolerance, 8192, 16), Err(18));
+        }
+        for (most, intervals) in [(0, 16), (8193, 16), (u32::MAX, 16), (8192, 0), (8192, 65), (8192, u32::MAX)] {
+            assert_eq!(taken(1e-9, most, intervals), Err(18));
+        }
+        let with = |i: usize, x: f64| {
+            let mut body = [0.0, 0.0, 0.0, 1.0, 0.0, 1.0, -1.0];
+            body[i] = x;
+            cylinder(&S, body, bad, &[])
+        };
+        assert_eq!((with(0, 0.0), with(0, 2e6), with(0, f64::NAN)), (Err(18), Err(5), Err(4)));
+        assert_eq!(cylinder(&S, along, bad, &[2e6]), Err(5));
+        assert_eq!(cylinder(&S[..4], along, bad, &[]), Err(2));
     }
 
     #[test]

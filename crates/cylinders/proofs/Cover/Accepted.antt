@@ -1,17 +1,22 @@
 -- A cylinder that is not turned down is within the limit, and so is its section: by what section's refusals leave.
 use mathlib.Core.Bool.{not}
-use mathlib.Core.List.{List}
+use mathlib.Core.List.{List, [], _∷_, _++_}
 use mathlib.Core.Path.{_≡_}
 use lib.Dec.{T}
 use lib.Ieee.{Float}
 use Rattle.arith.specs.F64.{_≺_, 𝟘}
 use Rattle.profile.specs.Refusals.{Test, refusal}
-use Rattle.profile.proofs.Refusals.Ordered.{Passes}
+use Rattle.profile.specs.Steps.{numbered}
+use Rattle.profile.proofs.Refusals.Ordered.{Passes, all-pass}
+use Rattle.profile.proofs.Refusals.Passed.{taken}
 use Rattle.section.specs.Demand.{AtMost}
 use Rattle.section.proofs.Demand.Accepted.{SectionTaken, section-taken}
 use Rattle.section.proofs.Demand.Hits.{VerticesAtMost}
-use Rattle.profile.proofs.Each.{All, cons}
+use Rattle.profile.proofs.Each.{All, all-first, cons}
 use Rattle.section.proofs.Demand.AtMost.{atMost-given}
+use Rattle.settings.specs.Settings.{settingsTests}
+use Rattle.settings.specs.declared.shapes.Settings.{Settings}
+use Rattle.settings.proofs.Taken.{SettingsTaken, settings-taken}
 use Rattle.bands.specs.Axis.{axis}
 use Rattle.bands.specs.declared.shapes.Cylinder.{Cylinder}
 use Rattle.bands.proofs.Limit.{CylinderInLimit}
@@ -34,14 +39,23 @@ in-limit (cons ax (cons ay (cons az (cons bx (cons by (cons bz (cons r h))))))) 
       solid = t;
     }
 
-pub accepted : (s : List Float) (c : Cylinder) (extra : List Float) → refusal (cylinderTests s c extra) ≡ 0 → Accepted s c
-accepted s c extra e = go (A .own-passes)
+-- whatever else is given, and whatever the settings
+pub accepted : (s : List Float) (c : Cylinder) (extra : List Float) (settings : List Test)
+    → T (numbered (settings ++ cylinderOwn (c .radius) (axis c))) → refusal (cylinderTests s c extra settings) ≡ 0 → Accepted s c
+accepted s c extra settings h e = go (A .own-passes)
   where
     own : List Test
     own = cylinderOwn (c .radius) (axis c)
 
     A : SectionTaken s (cylinderNumbers c) own
-    A = section-taken s (cylinderNumbers c) extra own tt e
+    A = section-taken s (cylinderNumbers c) extra settings own h e
 
     go : All Passes own → Accepted s c
     go (cons solid rest) = record { section = A .section; cylinder = in-limit (A .body) solid }
+
+-- where the call tests its settings, they are taken
+pub settings-accepted : (s : List Float) (c : Cylinder) (t : Settings) → refusal (cylinderTests s c [] (settingsTests t)) ≡ 0
+    → SettingsTaken t
+settings-accepted s c t e =
+    settings-taken t (all-pass (all-first (settingsTests t) (cylinderOwn (c .radius) (axis c))
+    (taken 3 256 (s ∷ []) (s ++ (cylinderNumbers c ++ [])) _ tt e .rest-passes)))

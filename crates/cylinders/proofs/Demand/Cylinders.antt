@@ -1,10 +1,11 @@
 -- Demand 1 of cylinders: where none is turned down the distance is at most 2 ^ 28 and the witness 2 ^ 25, along the
 -- spindle and across it, thin or walked, cut or not; beside a section on the axis only, too.
-use mathlib.Core.List.{List}
+use mathlib.Core.List.{List, []}
 use mathlib.Core.Path.{_≡_, refl}
-use lib.Dec.{lit<, lit≤}
+use native.Mathlib.Nat.{le-trans}
+use lib.Dec.{lit≤}
 use lib.Ieee.{Float}
-use Rattle.arith.specs.F64.{_≼_, e-15, e-9}
+use Rattle.arith.specs.F64.{_≼_, e-15}
 use Rattle.arith.proofs.Laws.Sizes.{finite-raise}
 use Rattle.profile.proofs.Steps.{pick}
 use Rattle.boxes.specs.Boxes.{boxDistance}
@@ -27,6 +28,9 @@ use Rattle.walk.specs.declared.shapes.CountedHit.{CountedHit}
 use Rattle.walk.proofs.Demand.Pieces.{thinBox-atMost}
 use Rattle.walk.proofs.Demand.Walks.{walkAll-atMost, walked-atMost}
 use Rattle.profile.specs.Refusals.{refusal}
+use Rattle.settings.specs.Settings.{settingsTests}
+use Rattle.settings.specs.declared.shapes.Settings.{Settings}
+use Rattle.settings.proofs.Taken.{SettingsTaken}
 use Rattle.cylinders.specs.Cylinders.{cylinderDistance, cylinderTests}
 use Rattle.cylinders.proofs.Cover.Accepted.{accepted}
 
@@ -40,26 +44,30 @@ axialBox-atMost C =
     }
 
 module _ {s : List Float} (S : VerticesAtMost 23 s) where
-  band-atMost : {b : RadialBand} → InLimit b → HitAtMost 28 (bandDistance s b .hit)
+  band-atMost : {b : RadialBand} {t : Settings} → SettingsTaken t → InLimit b → HitAtMost 28 (bandDistance s b t .hit)
   unfolding bandDistance
-  band-atMost {b} B =
+  band-atMost {b} {t} taken B =
       pick (λ (w : CountedHit). HitAtMost 28 (w .hit)) (b .radius ≼ e-15)
       (λ h. hit-raise (box-atMost S (thinBox-atMost B)) tt)
-      (λ h. walked-atMost (walkAll-atMost S B e-9 8192 (lit< tt) (record { some = lit< tt; few = lit≤ tt })))
+      (λ h. walked-atMost (walkAll-atMost S B (t .tolerance) (t .most) (taken .some-box)
+      (record { some = taken .some-interval; few = le-trans (taken .samples) (lit≤ tt) })))
 
-  cylinder-atMost : {c : Cylinder} → CylinderInLimit c → HitAtMost 28 (cylinderDistance s c .hit)
+  cylinder-atMost : {c : Cylinder} {t : Settings} → SettingsTaken t → CylinderInLimit c
+      → HitAtMost 28 (cylinderDistance s c t .hit)
   unfolding cylinderDistance
-  cylinder-atMost {c} C = by (axis c) refl
+  cylinder-atMost {c} {t} taken C = by (axis c) refl
     where
       along : HitAtMost 28 (boxDistance s (axialBox c))
       along = hit-raise (box-atMost S (axialBox-atMost C)) tt
 
-      by : (a : Axis) → axis c ≡ a → HitAtMost 28 (cylinderDistance s c .hit)
+      by : (a : Axis) → axis c ≡ a → HitAtMost 28 (cylinderDistance s c t .hit)
       by Axial e = rw e along
-      by AlongX e = rw e (band-atMost (bandOf-in-limit C))
-      by AlongY e = rw e (band-atMost (bandOf-in-limit (measuredAs-in-limit AlongY C)))
+      by AlongX e = rw e (band-atMost taken (bandOf-in-limit C))
+      by AlongY e = rw e (band-atMost taken (bandOf-in-limit (measuredAs-in-limit AlongY C)))
       by Neither e = rw e along
 
-pub cylinder-bounded : (s : List Float) (c : Cylinder) (extra : List Float) → refusal (cylinderTests s c extra) ≡ 0
-    → Bounded (cylinderDistance s c .hit)
-cylinder-bounded s c extra e = let A = accepted s c extra e in hit-bounded (cylinder-atMost (A .section) (A .cylinder)) tt
+pub cylinder-bounded : (s : List Float) (c : Cylinder) (t : Settings) → refusal (cylinderTests s c [] (settingsTests t)) ≡ 0
+    → SettingsTaken t → Bounded (cylinderDistance s c t .hit)
+cylinder-bounded s c t e taken =
+    let A = accepted s c [] (settingsTests t) tt e in
+    hit-bounded (cylinder-atMost (A .section) taken (A .cylinder)) tt

@@ -1,5 +1,5 @@
--- 01: the lowest number that applies is returned. Each call's numbers ascend, so that the first is the lowest.
-use mathlib.Core.List.{List}
+-- 01: the lowest number that applies is returned. The numbers of each call without settings ascend, so that the first is the lowest.
+use mathlib.Core.List.{List, []}
 use lib.Ieee.{Float}
 use Rattle.arith.specs.declared.vector.Vec3.{Vec3}
 use Rattle.profile.specs.Refusals.{refusal, pointTests, sphereTests, boxTests, convexTests}
@@ -12,10 +12,10 @@ module _ (s : List Float) where
   point-lowest p = first-is-lowest _ tt
 
   module _ (extra : List Float) where
-    pub sphere-lowest : (b : Sphere) → Lowest (sphereTests s b extra) (refusal (sphereTests s b extra))
+    pub sphere-lowest : (b : Sphere) → Lowest (sphereTests s b extra []) (refusal (sphereTests s b extra []))
     sphere-lowest b = first-is-lowest _ tt
 
-    pub box-lowest : (x : Aabb) → Lowest (boxTests s x extra) (refusal (boxTests s x extra))
+    pub box-lowest : (x : Aabb) → Lowest (boxTests s x extra []) (refusal (boxTests s x extra []))
     box-lowest x = first-is-lowest _ tt
 
     pub convex-lowest : (c : List Float) → Lowest (convexTests c s extra) (refusal (convexTests c s extra))

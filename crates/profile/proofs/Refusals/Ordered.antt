@@ -10,14 +10,10 @@ use lib.Dec.{T, ltb, leb, ltb→lt, leb→le}
 use lib.Ieee.Fits.{and-l, and-r}
 use borrow.Author.Tests.{ne-eqb}
 use Rattle.profile.specs.Refusals.{Test, refusal}
-use Rattle.profile.specs.Steps.{orElse}
+use Rattle.profile.specs.Steps.{numbered, orElse}
 use Rattle.profile.proofs.Each.{All, nil, cons, all-first, all-rest, all-append}
 
--- every number is above 0; at most n; each above the one before it
-abbrev pub numbered : List Test → Bool
-numbered [] = true
-numbered (t ∷ ts) = ltb 0 (t .number) && numbered ts
-
+-- every number is at most n; each above the one before it
 abbrev pub numbersAtMost : ℕ → List Test → Bool
 numbersAtMost n [] = true
 numbersAtMost n (t ∷ ts) = leb (t .number) n && numbersAtMost n ts
@@ -78,6 +74,12 @@ pub or-else-none : (n : ℕ) → orElse n 0 ≡ n
 or-else-none zero = refl
 or-else-none (suc n) = rw (ne-eqb (suc n) 0 (λ e. omega arith))
 
+pub or-else-first : (n m : ℕ) → (n ≡ 0 → ⊥) → n ≡ orElse n m
+or-else-first n m k = rw (ne-eqb n 0 k)
+
+pub or-else-second : (n m : ℕ) → n ≡ 0 → m ≡ orElse n m
+or-else-second n m z = rw z
+
 -- a call that makes the tests a, then b, then has its own number
 module _ (a b : List Test) (h : T (numbered a)) {n : ℕ} (own : ℕ) (e : n ≡ refusal a) where
   pub by-first : (n ≡ 0 → ⊥) → n ≡ orElse (refusal (a ++ b)) own
@@ -93,9 +95,15 @@ module _ (a b : List Test) (h : T (numbered a)) {n : ℕ} (own : ℕ) (e : n ≡
 pub by-rest : (a b : List Test) → T (numbered a) → {n m : ℕ} → n ≡ refusal a → n ≡ 0 → m ≡ refusal b → m ≡ refusal (a ++ b)
 by-rest a b h e z f = rw (refusal-append a b h, ← e, z, f)
 
-pub own-after : (a b : List Test) → T (numbered a) → {r own : ℕ} → r ≡ orElse (refusal a) own → own ≡ refusal b
-    → r ≡ refusal (a ++ b)
-own-after a b h e f = rw (e, f, refusal-append a b h)
+-- the tests a, then those of the settings, then the body's own
+pub own-after : (a settings b : List Test) → T (numbered a) → T (numbered settings) → {r n own : ℕ}
+    → r ≡ orElse (refusal a) (orElse n own) → n ≡ refusal settings → own ≡ refusal b → r ≡ refusal (a ++ (settings ++ b))
+own-after a settings b h k e g f = rw (e, g, f, refusal-append a (settings ++ b) h, refusal-append settings b k)
+
+-- a call without settings
+pub no-settings : 0 ≡ refusal []
+unfolding refusal
+no-settings = refl
 
 -- ---- the greatest number
 pub refusal-most : (n : ℕ) (ts : List Test) → T (numbersAtMost n ts) → refusal ts ≤ n

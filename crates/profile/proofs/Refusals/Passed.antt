@@ -8,7 +8,8 @@ use lib.Ieee.{Float}
 use Rattle.profile.specs.Vertices.{count}
 use Rattle.profile.specs.Refusals.{Test, refusal, odd, fewer, more, notFinite, overLimit, shapeTests, numberTests, listTests}
 use Rattle.profile.proofs.Each.{All, nil, cons, all-map, all-first, none-found, found-none}
-use Rattle.profile.proofs.Refusals.Ordered.{Passes, numbered, none-applies, all-pass}
+use Rattle.profile.specs.Steps.{numbered}
+use Rattle.profile.proofs.Refusals.Ordered.{Passes, none-applies, all-pass}
 
 -- an even count, and from least to most vertices or points
 pub record ShapeTaken (least most : ℕ) (l : List Float) : Type 0 where

@@ -9,7 +9,8 @@ use Rattle.arith.specs.Num.{isFinite}
 use Rattle.profile.specs.Refusals.{Test, refusal, besideTests}
 use Rattle.profile.specs.Vertices.{count}
 use Rattle.profile.proofs.Each.{All, all-at, all-first, all-map, all-rest, cons, nil}
-use Rattle.profile.proofs.Refusals.Ordered.{Passes, numbered}
+use Rattle.profile.specs.Steps.{numbered}
+use Rattle.profile.proofs.Refusals.Ordered.{Passes}
 use Rattle.profile.proofs.Refusals.Passed.{NumberTaken, ShapeTaken, Taken, taken}
 use Rattle.section.specs.Demand.{AtMost}
 use Rattle.section.proofs.Demand.Hits.{VerticesAtMost}
@@ -33,17 +34,17 @@ pub record SectionTaken (s numbers : List Float) (own : List Test) : Type 0 wher
   pub body : All (AtMost 20) numbers
   pub own-passes : All Passes own
 
-pub section-taken : (s numbers extra : List Float) (own : List Test) → T (numbered own)
-    → refusal (besideTests s numbers extra own) ≡ 0 → SectionTaken s numbers own
-section-taken s numbers extra own h e = go (t .shapes)
+pub section-taken : (s numbers extra : List Float) (settings own : List Test) → T (numbered (settings ++ own))
+    → refusal (besideTests s numbers extra settings own) ≡ 0 → SectionTaken s numbers own
+section-taken s numbers extra settings own h e = go (t .shapes)
   where
-    t : Taken 3 256 (s ∷ []) (s ++ (numbers ++ extra)) own
-    t = taken 3 256 (s ∷ []) (s ++ (numbers ++ extra)) own h e
+    t : Taken 3 256 (s ∷ []) (s ++ (numbers ++ extra)) (settings ++ own)
+    t = taken 3 256 (s ∷ []) (s ++ (numbers ++ extra)) (settings ++ own) h e
 
     go : All (ShapeTaken 3 256) (s ∷ []) → SectionTaken s numbers own
     go (cons k nil) =
         record {
           section = taken-vertices k (all-first s (numbers ++ extra) (t .numbers));
           body = all-map taken-atMost (all-first numbers extra (all-rest s (numbers ++ extra) (t .numbers)));
-          own-passes = t .rest-passes;
+          own-passes = all-rest settings own (t .rest-passes);
         }

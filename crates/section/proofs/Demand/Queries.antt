@@ -1,6 +1,7 @@
 -- Demand 1: a query's hit has what `Bounded` asks; at a point or a sphere, what `BoundedOffAxis` asks. For every input.
 use Prim.Native.Nat.{ℕ}
 use mathlib.Core.List.{List, [], _∷_, _++_}
+use mathlib.Core.Path.{_≡_}
 use lib.Dec.{T, leb}
 use lib.Ieee.{Float}
 use Rattle.arith.specs.declared.vector.Vec3.{Vec3}
@@ -10,7 +11,8 @@ use Rattle.convex.specs.Convex.{convexDistance}
 use Rattle.section.specs.Demand.{Bounded, BoundedOffAxis, AtMost}
 use Rattle.points.specs.Points.{meridian, pointDistance, sphereDistance}
 use Rattle.profile.specs.Refusals.{boxNumbers, boxTests, boundsTests, convexTests, pointNumbers, pointTests, radiusTests}
-use Rattle.profile.specs.Refusals.{refusal, sphereNumbers, sphereTests}
+use Rattle.profile.specs.Refusals.{Test, refusal, sphereNumbers, sphereTests}
+use Rattle.profile.specs.Steps.{numbered}
 use Rattle.profile.specs.Replies.{OfValue}
 use Rattle.profile.proofs.Refusals.Passed.{NumberTaken, ShapeTaken, taken}
 use Rattle.profile.proofs.Replies.{of-reply}
@@ -58,22 +60,31 @@ pub point-demand : (s : List Float) (p : Vec3) → OfValue (BoundedOffAxis s) (p
 unfolding pointAnswer
 point-demand s p =
     of-reply (BoundedOffAxis s) (refusal (pointTests s p)) (pointDistance s (meridian p))
-    (λ e. let A = section-taken s (pointNumbers p) [] [] tt e in
+    (λ e. let A = section-taken s (pointNumbers p) [] [] [] tt e in
     hit-boundedOffAxis (A .section) (point-atMost (A .section) (meridian-atMost (vec3-atMost (A .body)))) tt)
+
+-- whatever else is given, and whatever the settings
+module _ (s extra : List Float) (settings : List Test) where
+  pub sphere-bounded : (b : Sphere) → T (numbered (settings ++ radiusTests (b .radius)))
+      → refusal (sphereTests s b extra settings) ≡ 0 → BoundedOffAxis s (sphereDistance s b)
+  sphere-bounded b h e =
+      let A = section-taken s (sphereNumbers b) extra settings (radiusTests (b .radius)) h e in
+      hit-boundedOffAxis (A .section) (sphere-atMost (A .section) (vec3-atMost (A .body)) (radius-atMost (A .body))) tt
+
+  pub box-bounded : (x : Aabb) → T (numbered (settings ++ boundsTests x)) → refusal (boxTests s x extra settings) ≡ 0
+      → Bounded (boxDistance s x)
+  box-bounded x h e =
+      let A = section-taken s (boxNumbers x) extra settings (boundsTests x) h e in
+      hit-bounded (box-atMost (A .section) (box-numbers (A .body))) tt
 
 pub sphere-demand : (s : List Float) (b : Sphere) → OfValue (BoundedOffAxis s) (sphereAnswer s b)
 unfolding sphereAnswer
 sphere-demand s b =
-    of-reply (BoundedOffAxis s) (refusal (sphereTests s b [])) (sphereDistance s b)
-    (λ e. let A = section-taken s (sphereNumbers b) [] (radiusTests (b .radius)) tt e in
-    hit-boundedOffAxis (A .section) (sphere-atMost (A .section) (vec3-atMost (A .body)) (radius-atMost (A .body))) tt)
+    of-reply (BoundedOffAxis s) (refusal (sphereTests s b [] [])) (sphereDistance s b) (sphere-bounded s [] [] b tt)
 
 pub box-demand : (s : List Float) (x : Aabb) → OfValue Bounded (boxAnswer s x)
 unfolding boxAnswer
-box-demand s x =
-    of-reply Bounded (refusal (boxTests s x [])) (boxDistance s x)
-    (λ e. let A = section-taken s (boxNumbers x) [] (boundsTests x) tt e in
-    hit-bounded (box-atMost (A .section) (box-numbers (A .body))) tt)
+box-demand s x = of-reply Bounded (refusal (boxTests s x [] [])) (boxDistance s x) (box-bounded s [] [] x tt)
 
 pub convex-demand : (c s : List Float) → OfValue Bounded (convexAnswer c s)
 unfolding convexAnswer

@@ -34,7 +34,7 @@ use Rattle.walk.proofs.Cover.Counts.{boxes, due, few}
 use Rattle.walk.proofs.Cover.Least.{least}
 
 -- what is asked of a walk: a band within the limit, whose radius is an f64, a tolerance from 1e-9 on, a cap from 1 on
-pub record Settings (b : RadialBand) (tol : Float) (cap : ℕ) : Type 0 where
+pub record Coverable (b : RadialBand) (tol : Float) (cap : ℕ) : Type 0 where
   pub band : InLimit b
   pub held : T (fits binary64 (b .radius))
   pub tolerance : Tolerance tol
@@ -114,6 +114,6 @@ module _ (s : List Float) (b : RadialBand) (tol : Float) (B : InLimit b) (t : To
       best : Number (walk s b tol (suc cap) ps w₀ .best .distance)
       best = best-keeps s b tol B t (K (w₀ .best .distance)) (suc cap) ps w₀ ready (number, le-refl _) .0
 
-pub covers : (s : List Float) (b : RadialBand) (tol : Float) (cap n : ℕ) → Settings b tol cap
+pub covers : (s : List Float) (b : RadialBand) (tol : Float) (cap n : ℕ) → Coverable b tol cap
     → Covers s b tol cap n (walkAll s b tol cap n)
 covers s b tol cap n h = covers-all s b tol (h .band) (h .tolerance) (h .held) cap n (h .some-box)

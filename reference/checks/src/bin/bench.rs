@@ -2,7 +2,7 @@
 
 use checks::judge::vertices;
 use checks::random::Random;
-use jorghipa::{Aabb, Cylinder, Point, Sphere};
+use jorghipa::{Aabb, Cylinder, Point, Settings, Sphere};
 use std::hint::black_box;
 use std::time::{Duration, Instant};
 
@@ -151,16 +151,25 @@ fn bar(body: &Body, across: bool) -> Cylinder {
     Cylinder { a, b, radius: body.radius }
 }
 
-/// A walk measures up to 8,192 boxes a call, so that there are few of them.
+/// Settings for roughing.
+const COARSE: Settings = Settings { tolerance: 0.01, most: 64, intervals: 4 };
+
+/// A walk measures up to 8,192 boxes a call, so that there are few of them. The Rust has no settings but the finest.
 fn cylinders(least: Duration) {
     let mut random = Random::new(3, 0);
     let bodies: Vec<Body> = (0..4).map(|_| body(&mut random)).collect();
-    for (name, across) in [("cylinder along", false), ("cylinder across", true)] {
+    let finest = Settings::FINEST;
+    let kinds = [
+        ("cylinder along", false, finest),
+        ("cylinder across", true, finest),
+        ("cylinder across; port at 0.01, 64, 4", true, COARSE),
+    ];
+    for (name, across, settings) in kinds {
         let bars: Vec<Cylinder> = bodies.iter().map(|b| bar(b, across)).collect();
         for count in [4, 16] {
             let list = section(count);
             let points = vertices(&list);
-            let port = over(&bars, |&c| jorghipa::cylinder(&list, c));
+            let port = over(&bars, |&c| jorghipa::cylinder(&list, c, settings));
             let ways =
                 [rust_cylinder!(revolve_libm, &points, &bars), rust_cylinder!(revolve_exact, &points, &bars), port];
             print_row(Row { name: name.into(), vertices: count, ways }, least);
@@ -198,7 +207,8 @@ fn roots(least: Duration) {
 fn print_row(mut row: Row, least: Duration) {
     let [libm, exact, port] = medians(&mut row, least);
     let vertices = if row.vertices == 0 { String::new() } else { row.vertices.to_string() };
-    println!("| {} | {vertices} | {libm:.1} | {exact:.1} | {port:.1} | {:.2} |", row.name, port / libm);
+    let (share, digits) = (port / libm, if port < 0.01 * libm { 4 } else { 2 });
+    println!("| {} | {vertices} | {libm:.1} | {exact:.1} | {port:.1} | {share:.digits$} |", row.name);
 }
 
 fn main() {

@@ -1,7 +1,9 @@
 //! Bodies: aimed at a vertex or an edge of the section, with gaps of every size, or anywhere.
 
 use super::{SMALL, Style, sections};
+use crate::query::numbers_of;
 use crate::random::Random;
+use table::{FINEST, Settings};
 
 type Vertex = (f64, f64);
 
@@ -166,6 +168,41 @@ pub fn cylinder(random: &mut Random, style: Style, section: &[Vertex]) -> Vec<f6
         ends.swap(3, 4);
     }
     ends.into_iter().chain([radius]).collect()
+}
+
+/// A cylinder, one in eight of them made to be walked, then its settings: mostly coarse, and the edges of every range.
+pub fn set_cylinder(random: &mut Random, style: Style, section: &[Vertex]) -> Vec<f64> {
+    let mut body = cylinder(random, style, section);
+    if random.chance(1, 8) {
+        let (x, radius) = (random.pick(&[1e-3, 1.0, 8.0, 30.0, 500.0]), size(random));
+        body.splice(3.., [body[0] + x, body[1], body[2], radius]);
+        if random.chance(1, 2) {
+            body.swap(0, 1);
+            body.swap(3, 4);
+        }
+        body.iter_mut().for_each(|number| *number = limited(*number));
+    }
+    body.extend(numbers_of(settings(random)));
+    body
+}
+
+fn settings(random: &mut Random) -> Settings {
+    let tolerance = match random.below(6) {
+        0 => random.pick(&[1e-9, 1e-9f64.next_up(), 1f64.next_down(), 1.0]),
+        1..=3 => random.between(-6.0, 0.0).exp2().min(1.0),
+        _ => 10f64.powf(random.between(-8.9, 0.0)),
+    };
+    let most = match random.below(6) {
+        0 => random.pick(&[1, 2, 3, 8191, 8192]),
+        1 => random.whole(1, 8192),
+        _ => random.whole(1, 400),
+    };
+    let intervals = match random.below(4) {
+        0 => random.pick(&[1, 2, 3, 15, 16, 17, 63, 64]),
+        _ => random.whole(1, 64),
+    };
+    let settings = Settings { tolerance, most: most as u32, intervals: intervals as u32 };
+    if random.chance(1, 40) { FINEST } else { settings }
 }
 
 /// Any f64 at all: every pattern, an ordinary number, or a small or special one.

@@ -1,6 +1,6 @@
 //! Queries that are to be refused, each for one reason or for several at once.
 
-use crate::query::{Kind, Query};
+use crate::query::{Kind, Query, numbers_of};
 use crate::random::Random;
 
 const BAD: [f64; 12] = [
@@ -27,6 +27,9 @@ pub fn spoil(random: &mut Random, query: &mut Query) {
             3 | 4 => bad_number(random, query),
             _ => bad_body(random, query),
         }
+    }
+    if query.kind == Kind::SetCylinder && random.chance(1, 4) {
+        bad_setting(random, query);
     }
 }
 
@@ -79,6 +82,19 @@ fn bad_number(random: &mut Random, query: &mut Query) {
     all.enumerate().filter(|(i, _)| *i == place).for_each(|(_, x)| *x = bad);
 }
 
+/// A setting one step outside its range, or far out.
+fn bad_setting(random: &mut Random, query: &mut Query) {
+    let tolerances = [1e-9f64.next_down(), 1f64.next_up(), f64::NAN, f64::INFINITY, f64::NEG_INFINITY, 0.0, -0.0];
+    let more = [5e-324, f64::MIN_POSITIVE, -1e-9, -1.0, 2.0, f64::MAX];
+    let mut settings = query.settings();
+    match random.below(3) {
+        0 => settings.tolerance = random.pick(&[tolerances.as_slice(), &more].concat()),
+        1 => settings.most = random.pick(&[0, 8193, 8194, 65536 + 64, u32::MAX]),
+        _ => settings.intervals = random.pick(&[0, 65, 128, 256 + 16, u32::MAX]),
+    }
+    query.numbers.splice(7.., numbers_of(settings));
+}
+
 /// What each kind refuses by itself.
 fn bad_body(random: &mut Random, query: &mut Query) {
     match query.kind {
@@ -86,8 +102,13 @@ fn bad_body(random: &mut Random, query: &mut Query) {
             let radius = random.pick(&[-1.0, -5e-324, -1e-9, -3e6]);
             query.numbers[3] = radius;
         }
-        Kind::Cylinder | Kind::VerdictCylinder if random.chance(1, 2) => query.numbers[6] = -random.size(-9, 1),
-        Kind::Cylinder | Kind::VerdictCylinder => query.numbers[1] += random.pick(&[1.0, 1e-3, -7.0]),
+        Kind::SetCylinder if random.chance(1, 2) => bad_setting(random, query),
+        Kind::Cylinder | Kind::VerdictCylinder | Kind::SetCylinder if random.chance(1, 2) => {
+            query.numbers[6] = -random.size(-9, 1);
+        }
+        Kind::Cylinder | Kind::VerdictCylinder | Kind::SetCylinder => {
+            query.numbers[1] += random.pick(&[1.0, 1e-3, -7.0]);
+        }
         Kind::Box | Kind::VerdictBox => {
             let side = 2 * random.below(2);
             query.numbers.swap(side, side + 1);

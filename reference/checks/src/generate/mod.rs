@@ -129,6 +129,7 @@ fn well_formed(random: &mut Random, kind: Kind, style: Style) -> Query {
         Kind::Box | Kind::VerdictBox => beside(random, style, kind, 256, bodies::bounds),
         Kind::Cylinder => beside(random, style, kind, 12, bodies::cylinder),
         Kind::VerdictCylinder => beside(random, style, kind, 256, bodies::cylinder),
+        Kind::SetCylinder => beside(random, style, kind, 12, bodies::set_cylinder),
     }
 }
 

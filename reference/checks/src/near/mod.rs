@@ -5,6 +5,7 @@ mod body;
 mod builder;
 mod cylinder;
 mod point;
+mod settings;
 
 use crate::generate::{self, Style, list, rotated};
 use crate::judge;
@@ -52,6 +53,7 @@ pub fn thresholds(kind: Kind) -> Vec<Threshold> {
         Kind::VerdictSphere | Kind::VerdictBox | Kind::VerdictCylinder | Kind::VerdictConvex => {
             vec![("clearance", clearance)]
         }
+        Kind::SetCylinder => settings::SETTINGS.to_vec(),
     };
     let limit: (&'static str, Make) = ("limit 1,048,576", limit);
     makes.into_iter().chain([limit]).map(|(name, make)| Threshold { kind, name, make }).collect()

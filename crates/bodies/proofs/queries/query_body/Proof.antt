@@ -1,6 +1,5 @@
 -- `bodies::queries::query_body` meets its contract: by the kind of the body.
 use borrow.Author.Needs.{needs}
-use Rattle.bodies.proofs.OfKind.{sphere-answers, box-answers}
 use Rattle.bodies.specs.Bodies.{bodyAnswer}
 use Rattle.cylinders.specs.Cylinders.{cylinderAnswer}
 use Rattle.bodies.proofs.queries.query_body.Statement.{statement}
@@ -12,17 +11,11 @@ enum-known-body c = search needs
 query-sphere-requires : tie.Need-query-sphere-requires
 query-sphere-requires c κs = search needs
 
-counted-requires : tie.Need-counted-requires
-counted-requires c κs = search needs
-
 enum-known-body-2 : tie.Need-enum-known-body-2
 enum-known-body-2 c = search needs
 
-aabb-polygon-distance-requires : tie.Need-aabb-polygon-distance-requires
-aabb-polygon-distance-requires c κs = search needs
-
-counted-requires-2 : tie.Need-counted-requires-2
-counted-requires-2 c κs = search needs
+query-box-requires : tie.Need-query-box-requires
+query-box-requires c κs = search needs
 
 enum-known-body-3 : tie.Need-enum-known-body-3
 enum-known-body-3 c = search needs
@@ -31,14 +24,10 @@ query-cylinder-requires : tie.Need-query-cylinder-requires
 query-cylinder-requires c κs = search needs
 
 returns : tie.Need-returns
-returns c =
-    rw (c .before .before .before .body .given .1)
-    (sphere-answers _ _ (c .before .query-sphere .ensures) (c .counted .ensures))
+returns c = rw (c .before .before .body .given .1) (c .query-sphere .ensures)
 
 returns-2 : tie.Need-returns-2
-returns-2 c =
-    rw (c .before .before .before .body2 .given .1)
-    (box-answers _ _ (c .before .aabb-polygon-distance .ensures) (c .counted2 .ensures))
+returns-2 c = rw (c .before .before .body2 .given .1) (c .query-box .ensures)
 
 returns-3 : tie.Need-returns-3
 unfolding bodyAnswer cylinderAnswer
@@ -50,10 +39,8 @@ query-body-spec =
     (tie.spec
     enum-known-body
     query-sphere-requires
-    counted-requires
     enum-known-body-2
-    aabb-polygon-distance-requires
-    counted-requires-2
+    query-box-requires
     enum-known-body-3
     query-cylinder-requires
     returns

@@ -1,5 +1,6 @@
 -- `capi::cylinder::jorghipa_cylinder` meets its contract: the answer's case in the lent places; the counts fit by demand 3.
 use borrow.Author.Needs.{needs}
+use native.Mathlib.Omega.{arith}
 use mathlib.Core.Path.{ap}
 use Rattle.cylinders.specs.Cylinders.{told}
 use Rattle.capi.proofs.Same.{few, measures, walked}
@@ -15,7 +16,8 @@ enum-known-answer c = search needs
 give-counts-requires : tie.Need-give-counts-requires
 give-counts-requires c κs =
     let d = c .before .before .before .before .before in
-    few _ _ (ap told (d .answer .given .1)) (d .before .before .query-cylinder .ensures .owed)
+    let x = d .before .before .before .before .good .1 .1 .1 .1 .1 .1 .1 .1 .1 .0 in
+    few _ _ _ (omega (arith, x)) (ap told (d .answer .given .1)) (d .before .before .query-cylinder .ensures .owed)
 
 give-requires : tie.Need-give-requires
 give-requires c κs = search needs

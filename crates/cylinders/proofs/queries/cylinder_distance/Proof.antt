@@ -15,9 +15,8 @@ enum-told-2 c = search needs
 
 query-radial-requires : tie.Need-query-radial-requires
 query-radial-requires c κs =
-    let asked = c .before .before .before .pre in
-    let room = asked .room in
-    (asked .long, rw (c .enum-told2 .given .1) at room)
+    let walkable = c .before .before .before .pre .walkable in
+    rw (c .enum-told2 .given .1) at walkable
 
 enum-told-3 : tie.Need-enum-told-3
 enum-told-3 c = search needs
@@ -27,9 +26,8 @@ exchanged-requires c κs = search needs
 
 query-radial-requires-2 : tie.Need-query-radial-requires-2
 query-radial-requires-2 c κs =
-    let asked = c .before .before .before .before .pre in
-    let room = asked .room in
-    rw (c .exchanged .ensures) (asked .long, rw (c .before .enum-told3 .given .1) at room)
+    let walkable = c .before .before .before .before .pre .walkable in
+    rw (c .exchanged .ensures) (rw (c .before .enum-told3 .given .1) at walkable)
 
 enum-told-4 : tie.Need-enum-told-4
 enum-told-4 c = search needs

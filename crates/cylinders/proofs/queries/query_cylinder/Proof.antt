@@ -1,9 +1,10 @@
 -- `cylinders::queries::query_cylinder` meets its contract: the number or the hit, and demands 1 and 3 of it.
 use borrow.Author.Needs.{needs}
 use Rattle.profile.proofs.Replies.{answered, refused}
+use Rattle.settings.specs.Settings.{settingsTests}
 use Rattle.cylinders.specs.Cylinders.{cylinderAnswer}
 use Rattle.cylinders.specs.Promised.{Promised}
-use Rattle.cylinders.proofs.Given.{measurable}
+use Rattle.cylinders.proofs.Given.{is-f64, query-measurable}
 use Rattle.cylinders.proofs.Promise.{promised}
 use Rattle.cylinders.proofs.queries.query_cylinder.Statement.{statement}
 use Rattle.cylinders.proofs.queries.query_cylinder.Tie as tie
@@ -14,25 +15,42 @@ axis-of-requires c κs = search needs
 slice-aggregate-cylinder-refusal : tie.Need-slice-aggregate-cylinder-refusal
 slice-aggregate-cylinder-refusal c = search needs
 
+settings-refusal-requires : tie.Need-settings-refusal-requires
+settings-refusal-requires c κs = search needs
+
 cylinder-refusal-requires : tie.Need-cylinder-refusal-requires
-cylinder-refusal-requires c κs = c .before .axis-of .ensures
+cylinder-refusal-requires c κs = c .before .before .axis-of .ensures
 
 returns : tie.Need-returns
 unfolding cylinderAnswer
 returns c =
+    let start = c .before .before .before .before .before .before in
     let checked = c .before .cylinder-refusal .ensures in
-    answered (Promised _ _) (promised _ _ (checked .f64s)) (rw (← checked .number) (refused _ _ (c .if1 .taken)))
+    let t = start .args .settings in
+    let f64 = is-f64 (t .tolerance) (start .good .1 .1 .0 .1 .1 .0 .1) in
+    answered (Promised _ _ t) (promised _ _ t (checked .f64s) f64)
+    (rw (← checked .number (settingsTests t) tt (c .before .before .settings-refusal .ensures)) (refused _ _ (c .if1 .taken)))
 
 cylinder-distance-requires : tie.Need-cylinder-distance-requires
 cylinder-distance-requires c κs =
-    measurable (c .before .before .before .axis-of .ensures) (c .before .cylinder-refusal .ensures) (c .if1 .left)
+    let start = c .before .before .before .before .before .before in
+    let number = c .before .before .settings-refusal .ensures in
+    query-measurable (is-f64 _ (start .good .1 .1 .0 .1 .1 .0 .1)) (c .before .before .before .before .axis-of .ensures)
+    (c .before .cylinder-refusal .ensures) number (c .if1 .left)
 
 returns-2 : tie.Need-returns-2
 unfolding cylinderAnswer
 returns-2 c =
+    let start = c .before .before .before .before .before .before .before in
     let checked = c .before .before .cylinder-refusal .ensures in
-    answered (Promised _ _) (promised _ _ (checked .f64s))
-    (rw (← checked .number, c .before .if1 .left, c .cylinder-distance .ensures))
+    let t = start .args .settings in
+    let f64 = is-f64 (t .tolerance) (start .good .1 .1 .0 .1 .1 .0 .1) in
+    answered (Promised _ _ t) (promised _ _ t (checked .f64s) f64)
+    (rw (
+      ← checked .number (settingsTests t) tt (c .before .before .before .settings-refusal .ensures),
+      c .before .if1 .left,
+      c .cylinder-distance .ensures,
+    ))
 
 pub query-cylinder-spec : {M : Type 1} → statement M
 query-cylinder-spec =
@@ -40,6 +58,7 @@ query-cylinder-spec =
     (tie.spec
     axis-of-requires
     slice-aggregate-cylinder-refusal
+    settings-refusal-requires
     cylinder-refusal-requires
     returns
     cylinder-distance-requires

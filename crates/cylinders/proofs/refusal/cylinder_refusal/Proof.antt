@@ -22,8 +22,9 @@ returns c =
     let a = g .0 .1 .1 in
     let b = g .1 .0 .1 .1 in
     record {
-      number =
-          rw (← start .pre) (own-after (givenTests _ _) _ tt (c .body-refusal .ensures) (c .before .own-refusal .ensures));
+      number = λ ts h e.
+          rw (← start .pre)
+          (own-after (givenTests _ _) ts _ tt h (c .body-refusal .ensures) e (c .before .own-refusal .ensures));
       f64s = f64s _ (a .0 .1) (a .1 .0 .1) (a .1 .1 .0 .1) (b .0 .1) (b .1 .0 .1) (b .1 .1 .0 .1) (g .1 .1 .0 .1);
     }
 

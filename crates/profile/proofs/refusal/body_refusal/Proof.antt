@@ -1,7 +1,8 @@
 -- `profile::refusal::body_refusal` meets its contract.
 use borrow.Author.Needs.{needs}
-use Rattle.profile.specs.Refusals.{shapeTests, numberTests}
-use Rattle.profile.proofs.Refusals.Ordered.{by-first, by-second, by-own}
+use mathlib.Core.Path.{_∙_}
+use Rattle.profile.specs.Refusals.{numberTests}
+use Rattle.profile.proofs.Refusals.Ordered.{by-first, by-second, by-own, or-else-first, or-else-second}
 use Rattle.profile.proofs.refusal.body_refusal.Statement.{statement}
 use Rattle.profile.proofs.refusal.body_refusal.Tie as tie
 
@@ -21,8 +22,15 @@ returns-2 c =
 
 returns-3 : tie.Need-returns-3
 returns-3 c =
-    by-own _ _ tt _ (c .before .before .before .shape-refusal .ensures) (c .before .before .if1 .left)
-    (c .before .numbers-refusal .ensures) (c .if2 .left)
+    or-else-first _ _ (c .if3 .taken)
+    ∙ by-own _ _ tt _ (c .before .before .before .before .shape-refusal .ensures) (c .before .before .before .if1 .left)
+    (c .before .before .numbers-refusal .ensures) (c .before .if2 .left)
+
+returns-4 : tie.Need-returns-4
+returns-4 c =
+    or-else-second _ _ (c .if3 .left)
+    ∙ by-own _ _ tt _ (c .before .before .before .before .shape-refusal .ensures) (c .before .before .before .if1 .left)
+    (c .before .before .numbers-refusal .ensures) (c .before .if2 .left)
 
 pub body-refusal-spec : {M : Type 1} → statement M
-body-refusal-spec = tie.close (tie.spec shape-refusal-requires returns numbers-refusal-requires returns-2 returns-3)
+body-refusal-spec = tie.close (tie.spec shape-refusal-requires returns numbers-refusal-requires returns-2 returns-3 returns-4)

@@ -15,7 +15,7 @@ body-refusal-requires : tie.Need-body-refusal-requires
 body-refusal-requires c κs = search needs
 
 returns : tie.Need-returns
-returns c = own-after (givenTests _ _) _ tt (c .body-refusal .ensures) (c .before .bounds-refusal .ensures)
+returns c ts h e = own-after (givenTests _ _) ts _ tt h (c .body-refusal .ensures) e (c .before .bounds-refusal .ensures)
 
 pub box-refusal-spec : {M : Type 1} → statement M
 box-refusal-spec = tie.close (tie.spec slice-aggregate-body-refusal bounds-refusal-requires body-refusal-requires returns)

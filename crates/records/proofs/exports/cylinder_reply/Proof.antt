@@ -1,5 +1,6 @@
 -- `records::exports::cylinder_reply` meets its contract: the reply of the answer on the front.
 use borrow.Author.Needs.{needs}
+use Rattle.settings.specs.Settings.{finest}
 use Rattle.cylinders.specs.Cylinders.{told, cylinderAnswer}
 use Rattle.records.specs.Replies.{cCylinderReply}
 use Rattle.records.proofs.Replied.{replied}
@@ -17,7 +18,7 @@ cylinder-reply-of-requires c κs = search needs
 
 returns : tie.Need-returns
 returns c =
-    replied told cCylinderReply cylinderAnswer (c .before .before .cylinder-of .ensures) (c .before .cylinder-front .ensures)
+    replied told cCylinderReply (λ s b. cylinderAnswer s b finest) (c .before .before .cylinder-of .ensures) (c .before .cylinder-front .ensures)
     (c .cylinder-reply-of .ensures)
 
 pub cylinder-reply-spec : {M : Type 1} → statement M

@@ -15,12 +15,15 @@ numbers-of-requires c κs = search needs
 slice-aggregate-query-cylinder : tie.Need-slice-aggregate-query-cylinder
 slice-aggregate-query-cylinder c = sym (length-take-le _ _ (omega arith))
 
+finest-requires : tie.Need-finest-requires
+finest-requires c κs = search needs
+
 query-cylinder-requires : tie.Need-query-cylinder-requires
 query-cylinder-requires c κs = search needs
 
 returns-2 : tie.Need-returns-2
 returns-2 c = record {
-  front = λ h. rw (← c .before .before .before .numbers-of .ensures) (c .query-cylinder .ensures);
+  front = λ h. rw (← c .before .before .before .before .numbers-of .ensures, ← c .before .finest .ensures) (c .query-cylinder .ensures);
   many = λ h. absurd (omega arith);
 }
 
@@ -31,5 +34,6 @@ cylinder-front-spec =
     returns
     numbers-of-requires
     slice-aggregate-query-cylinder
+    finest-requires
     query-cylinder-requires
     returns-2)

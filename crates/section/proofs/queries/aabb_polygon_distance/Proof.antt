@@ -1,7 +1,9 @@
 -- `section::queries::aabb_polygon_distance` meets its contract: the number or the hit, and demand 1 of it.
 use borrow.Author.Needs.{needs}
+use mathlib.Core.List.{[]}
 use mathlib.Core.Path.{sym, _∙_}
 use Rattle.profile.specs.Refusals.{boundsTests}
+use Rattle.profile.proofs.Refusals.Ordered.{no-settings}
 use Rattle.profile.proofs.Refusals.Passed.{section-long}
 use Rattle.profile.proofs.Replies.{answered, refused}
 use Rattle.section.specs.Answers.{boxAnswer}
@@ -18,15 +20,15 @@ box-refusal-requires c κs = search needs
 
 returns : tie.Need-returns
 unfolding boxAnswer
-returns c = answered Bounded (box-demand _ _) (rw (← c .before .box-refusal .ensures) (refused _ _ (c .if1 .taken)))
+returns c = answered Bounded (box-demand _ _) (rw (← c .before .box-refusal .ensures [] tt no-settings) (refused _ _ (c .if1 .taken)))
 
 box-distance-requires : tie.Need-box-distance-requires
-box-distance-requires c κs = section-long _ _ (boundsTests _) tt (sym (c .before .box-refusal .ensures) ∙ c .if1 .left)
+box-distance-requires c κs = section-long _ _ (boundsTests _) tt (sym (c .before .box-refusal .ensures [] tt no-settings) ∙ c .if1 .left)
 
 returns-2 : tie.Need-returns-2
 unfolding boxAnswer
 returns-2 c =
-    answered Bounded (box-demand _ _) (rw (← c .before .before .box-refusal .ensures, c .before .if1 .left, c .box-distance .ensures))
+    answered Bounded (box-demand _ _) (rw (← c .before .before .box-refusal .ensures [] tt no-settings, c .before .if1 .left, c .box-distance .ensures))
 
 pub aabb-polygon-distance-spec : {M : Type 1} → statement M
 aabb-polygon-distance-spec =

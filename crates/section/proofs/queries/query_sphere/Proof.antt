@@ -1,7 +1,9 @@
 -- `section::queries::query_sphere` meets its contract: the number or the hit, and demand 1 of it.
 use borrow.Author.Needs.{needs}
+use mathlib.Core.List.{[]}
 use mathlib.Core.Path.{sym, _∙_}
 use Rattle.profile.specs.Refusals.{radiusTests}
+use Rattle.profile.proofs.Refusals.Ordered.{no-settings}
 use Rattle.profile.proofs.Refusals.Passed.{section-long}
 use Rattle.profile.proofs.Replies.{answered, refused}
 use Rattle.section.specs.Answers.{sphereAnswer}
@@ -18,15 +20,15 @@ sphere-refusal-requires c κs = search needs
 
 returns : tie.Need-returns
 unfolding sphereAnswer
-returns c = answered (BoundedOffAxis _) (sphere-demand _ _) (rw (← c .before .sphere-refusal .ensures) (refused _ _ (c .if1 .taken)))
+returns c = answered (BoundedOffAxis _) (sphere-demand _ _) (rw (← c .before .sphere-refusal .ensures [] tt no-settings) (refused _ _ (c .if1 .taken)))
 
 sphere-distance-requires : tie.Need-sphere-distance-requires
-sphere-distance-requires c κs = section-long _ _ (radiusTests _) tt (sym (c .before .sphere-refusal .ensures) ∙ c .if1 .left)
+sphere-distance-requires c κs = section-long _ _ (radiusTests _) tt (sym (c .before .sphere-refusal .ensures [] tt no-settings) ∙ c .if1 .left)
 
 returns-2 : tie.Need-returns-2
 unfolding sphereAnswer
 returns-2 c =
-    answered (BoundedOffAxis _) (sphere-demand _ _) (rw (← c .before .before .sphere-refusal .ensures, c .before .if1 .left, c .sphere-distance .ensures))
+    answered (BoundedOffAxis _) (sphere-demand _ _) (rw (← c .before .before .sphere-refusal .ensures [] tt no-settings, c .before .if1 .left, c .sphere-distance .ensures))
 
 pub query-sphere-spec : {M : Type 1} → statement M
 query-sphere-spec =

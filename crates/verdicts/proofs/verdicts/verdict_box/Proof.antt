@@ -1,7 +1,9 @@
 -- `verdicts::verdicts::verdict_box` meets its contract.
 use borrow.Author.Needs.{needs}
+use mathlib.Core.List.{[]}
 use mathlib.Core.Path.{sym, _∙_}
 use Rattle.profile.specs.Refusals.{boundsTests}
+use Rattle.profile.proofs.Refusals.Ordered.{no-settings}
 use Rattle.profile.proofs.Refusals.Passed.{section-long}
 use Rattle.profile.proofs.Replies.{refused}
 use Rattle.verdicts.specs.Verdicts.{bodyVerdict}
@@ -16,10 +18,10 @@ box-refusal-requires c κs = search needs
 
 returns : tie.Need-returns
 unfolding bodyVerdict
-returns c = rw (← c .before .box-refusal .ensures) (refused _ _ (c .if1 .taken))
+returns c = rw (← c .before .box-refusal .ensures [] tt no-settings) (refused _ _ (c .if1 .taken))
 
 box-distance-requires : tie.Need-box-distance-requires
-box-distance-requires c κs = section-long _ _ (boundsTests _) tt (sym (c .before .box-refusal .ensures) ∙ c .if1 .left)
+box-distance-requires c κs = section-long _ _ (boundsTests _) tt (sym (c .before .box-refusal .ensures [] tt no-settings) ∙ c .if1 .left)
 
 judged-requires : tie.Need-judged-requires
 judged-requires c κs = search needs
@@ -27,7 +29,7 @@ judged-requires c κs = search needs
 returns-2 : tie.Need-returns-2
 unfolding bodyVerdict
 returns-2 c =
-    rw (← c .before .before .before .box-refusal .ensures, c .before .before .if1 .left, ← c .before .box-distance .ensures)
+    rw (← c .before .before .before .box-refusal .ensures [] tt no-settings, c .before .before .if1 .left, ← c .before .box-distance .ensures)
     (c .judged .ensures)
 
 pub verdict-box-spec : {M : Type 1} → statement M

@@ -1,6 +1,8 @@
 -- `verdicts::verdicts::verdict_cylinder` meets its contract.
 use borrow.Author.Needs.{needs}
-use Rattle.cylinders.proofs.Given.{measurable}
+use mathlib.Core.List.{[]}
+use Rattle.cylinders.proofs.Given.{finest-measurable}
+use Rattle.profile.proofs.Refusals.Ordered.{no-settings}
 use Rattle.profile.proofs.Replies.{refused}
 use Rattle.verdicts.specs.Verdicts.{bodyVerdict}
 use Rattle.verdicts.proofs.verdicts.verdict_cylinder.Statement.{statement}
@@ -17,11 +19,16 @@ cylinder-refusal-requires c κs = c .before .axis-of .ensures
 
 returns : tie.Need-returns
 unfolding bodyVerdict
-returns c = rw (← c .before .cylinder-refusal .ensures .number) (refused _ _ (c .if1 .taken))
+returns c = rw (← c .before .cylinder-refusal .ensures .number [] tt no-settings) (refused _ _ (c .if1 .taken))
+
+finest-requires : tie.Need-finest-requires
+finest-requires c κs = search needs
 
 cylinder-distance-requires : tie.Need-cylinder-distance-requires
 cylinder-distance-requires c κs =
-    measurable (c .before .before .before .axis-of .ensures) (c .before .cylinder-refusal .ensures) (c .if1 .left)
+    rw (c .finest .ensures)
+    (finest-measurable (c .before .before .before .before .axis-of .ensures) (c .before .before .cylinder-refusal .ensures)
+    (c .before .if1 .left))
 
 judged-requires : tie.Need-judged-requires
 judged-requires c κs = search needs
@@ -30,8 +37,9 @@ returns-2 : tie.Need-returns-2
 unfolding bodyVerdict
 returns-2 c =
     rw (
-      ← c .before .before .before .cylinder-refusal .ensures .number,
-      c .before .before .if1 .left,
+      ← c .before .before .before .before .cylinder-refusal .ensures .number [] tt no-settings,
+      c .before .before .before .if1 .left,
+      ← c .before .before .finest .ensures,
       ← c .before .cylinder-distance .ensures,
     )
     (c .judged .ensures)
@@ -44,6 +52,7 @@ verdict-cylinder-spec =
     slice-aggregate-cylinder-refusal
     cylinder-refusal-requires
     returns
+    finest-requires
     cylinder-distance-requires
     judged-requires
     returns-2)

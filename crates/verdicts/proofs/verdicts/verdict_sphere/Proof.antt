@@ -1,7 +1,9 @@
 -- `verdicts::verdicts::verdict_sphere` meets its contract.
 use borrow.Author.Needs.{needs}
+use mathlib.Core.List.{[]}
 use mathlib.Core.Path.{sym, _∙_}
 use Rattle.profile.specs.Refusals.{radiusTests}
+use Rattle.profile.proofs.Refusals.Ordered.{no-settings}
 use Rattle.profile.proofs.Refusals.Passed.{section-long}
 use Rattle.profile.proofs.Replies.{refused}
 use Rattle.verdicts.specs.Verdicts.{bodyVerdict}
@@ -16,10 +18,10 @@ sphere-refusal-requires c κs = search needs
 
 returns : tie.Need-returns
 unfolding bodyVerdict
-returns c = rw (← c .before .sphere-refusal .ensures) (refused _ _ (c .if1 .taken))
+returns c = rw (← c .before .sphere-refusal .ensures [] tt no-settings) (refused _ _ (c .if1 .taken))
 
 sphere-distance-requires : tie.Need-sphere-distance-requires
-sphere-distance-requires c κs = section-long _ _ (radiusTests _) tt (sym (c .before .sphere-refusal .ensures) ∙ c .if1 .left)
+sphere-distance-requires c κs = section-long _ _ (radiusTests _) tt (sym (c .before .sphere-refusal .ensures [] tt no-settings) ∙ c .if1 .left)
 
 judged-requires : tie.Need-judged-requires
 judged-requires c κs = search needs
@@ -27,7 +29,7 @@ judged-requires c κs = search needs
 returns-2 : tie.Need-returns-2
 unfolding bodyVerdict
 returns-2 c =
-    rw (← c .before .before .before .sphere-refusal .ensures, c .before .before .if1 .left, ← c .before .sphere-distance .ensures)
+    rw (← c .before .before .before .sphere-refusal .ensures [] tt no-settings, c .before .before .if1 .left, ← c .before .sphere-distance .ensures)
     (c .judged .ensures)
 
 pub verdict-sphere-spec : {M : Type 1} → statement M

@@ -1,0 +1,2 @@
+-- What settings that are taken are, and that the finest are taken.
+pub mod Taken

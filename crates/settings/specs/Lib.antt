@@ -1,0 +1,2 @@
+-- 02's settings of the walk.
+pub mod Settings
