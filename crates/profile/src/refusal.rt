@@ -222,9 +222,9 @@ pub fn convex_refusal(c: &[f64], s: &[f64], extra: &[f64]) -> u32
     if of_shapes != 0 {
         return of_shapes;
     }
-    let of_numbers = numbers_refusal(c, s, extra);
-    if of_numbers != 0 {
-        return of_numbers;
+    let number = numbers_refusal(c, s, extra);
+    if number != 0 {
+        return number;
     }
     axis_refusal(s, 0)
 }
