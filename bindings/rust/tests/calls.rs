@@ -108,7 +108,7 @@ fn with_radius(radius: f64) -> [f64; 8] {
 /// 6 in every call that takes a section, after 4 and 5 of the body, after 18, and before 9, 10 and 11.
 #[test]
 fn radii_below_the_axis() {
-    let (low, origin, coarse) = (with_radius(-1.0), at(0.0, 0.0, 0.0), Settings { most: 0, ..Settings::FINEST });
+    let (low, origin, out_of_range) = (with_radius(-1.0), at(0.0, 0.0, 0.0), Settings { most: 0, ..Settings::FINEST });
     let (ball, crossed) = (Sphere { center: origin, radius: -1.0 }, bounds(5.0, 4.0, 0.0, 5.0));
     let (skew, far) = (bar(origin, at(1.0, 0.0, 1.0), -1.0), at(0.0, 0.0, 2e6));
     assert_eq!(point(&low, origin), Err(Refusal(6)));
@@ -118,7 +118,7 @@ fn radii_below_the_axis() {
     assert_eq!(verdict_sphere(&low, ball, f64::NAN), Err(Refusal(4)));
     assert_eq!((aabb(&low, crossed), verdict_box(&low, crossed, 1.0)), (Err(Refusal(6)), Err(Refusal(6))));
     assert_eq!(cylinder(&low, skew, Settings::FINEST), Err(Refusal(6)));
-    assert_eq!(cylinder(&low, skew, coarse), Err(Refusal(18)));
+    assert_eq!(cylinder(&low, skew, out_of_range), Err(Refusal(18)));
     assert_eq!(verdict_cylinder(&low, skew, 1.0), Err(Refusal(6)));
     assert_eq!((convex(&S, &low), verdict_convex(&S, &low, 1.0)), (Err(Refusal(6)), Err(Refusal(6))));
     // A convex body may lie below the spindle.

@@ -117,7 +117,7 @@ mod tests {
         assert_eq!(listing(&example()), lines);
     }
 
-    /// The example with these radii in records 1 to 4, each record's number.
+    /// The example with these radii in records 1 to 4.
     fn with_radii(radii: [f64; 4]) -> Vec<u8> {
         let vertices: [[f64; 4]; 4] = std::array::from_fn(|i| [S[i][0], radii[i], 0.0, 0.0]);
         in_order(&vertices, &[(3, [25.0, 30.0, 0.0, 5.0])])

@@ -72,7 +72,7 @@ impl Stores {
 
     /// As above, and now and then below 0, about -1e-9 and farther.
     fn vertex_radius(&mut self) -> f64 {
-        if self.random.below(40) > 0 {
+        if self.random.below(16) > 0 {
             return self.radius();
         }
         let about = self.random.near(-1e-9);
