@@ -150,7 +150,8 @@ radii-told b [] = refl
 radii-told b (k ∷ ks) = go (isVertex b k) (number b k 1 ≺ neg e-9) refl (radii-told b ks)
   where
     go :
-        (vertex below : Bool) → (number b k 1 ≺ neg e-9) ≡ below → refusedBy always (radiiAnswer b ks) ≡ anyBelowAxis (vertices b ks)
+        (vertex below : Bool) → (number b k 1 ≺ neg e-9) ≡ below
+        → refusedBy always (radiiAnswer b ks) ≡ anyBelowAxis (vertices b ks)
         → refusedBy always (cond (vertex && below) (Refused 6 k) (radiiAnswer b ks))
         ≡ anyBelowAxis (cond vertex (number b k 0 ∷ number b k 1 ∷ []) [] ++ vertices b ks)
     go true true e rest = rw (one-vertex-more (number b k 0) (number b k 1) (vertices b ks), e)

@@ -59,10 +59,13 @@ pub numbered-refused : (n : ℕ) → (n ≡ 0 → ⊥) → numbered n ≡ Refuse
 numbered-refused zero h = absurd (h refl)
 numbered-refused (suc n) h = refl
 
--- an accepted section has 3 to 256 vertices
-pub section-accepted : (s : List Float) → sectionAnswer s ≡ Accepted → Counted 3 256 s
+-- an accepted section has none of the numbers, and 3 to 256 vertices
+pub section-passes : (s : List Float) → sectionAnswer s ≡ Accepted → refusal (listTests 3 256 s) ≡ 0
 unfolding sectionAnswer
-section-accepted s e = list-counted 3 256 s (none-numbered (refusal (listTests 3 256 s)) e)
+section-passes s e = none-numbered (refusal (listTests 3 256 s)) e
+
+pub section-accepted : (s : List Float) → sectionAnswer s ≡ Accepted → Counted 3 256 s
+section-accepted s e = list-counted 3 256 s (section-passes s e)
 
 pub too-many : (s : List Float) (n : ℕ) → length s ≡ n * 2 → 256 < n → sectionAnswer s ≡ Refused 3 0
 unfolding sectionAnswer refusal anyOf

@@ -1,5 +1,5 @@
--- 01's store, in its order: the bytes, the records, the chain, the kinds, the radii, the verdict on a store. Steps is what the functions
--- behind the entry points promise each other.
+-- 01's store, in its order: the bytes, the records, the chain, the kinds, the radii, the verdict on a store. Steps is what the
+-- functions behind the entry points promise each other.
 pub mod Bytes
 pub mod Records
 pub mod Chain

@@ -48,8 +48,8 @@ example =
 pub example-lists : listing example ≡ text "section 4\n5 4014000000000000 4034000000000000 0000000000000000\n"
 unfolding add sub mul div neg lt le eq ofInt ofBits toBits isFinite hypot upto any closest closestPlaces segments
     surfaceStep surfaceNear crosses pointInside insideAxisEdge inSection pointDistance clipSide clip edgeBox
-    strictlyInsideAabb segmentThroughInterior boxGap boxPenetration boxWitness boxHolds resultOf boxDistance anyOf anyBelowAxis refusal
-    boxAnswer littleEndian next kind number follow chain rightKind firstRefused belowAxis vertices
+    strictlyInsideAabb segmentThroughInterior boxGap boxPenetration boxWitness boxHolds resultOf boxDistance anyOf
+    anyBelowAxis refusal boxAnswer littleEndian next kind number follow chain rightKind firstRefused belowAxis vertices
     lengthAnswer sectionAnswer storeAnswer chained text decimalAtMost decimal hex bits bodyAnswer fieldText hitText bodyLine sectionLine refusalLine
     acceptedText listing lowBytes recordBytes example flatMap
 example-lists = refl
