@@ -147,7 +147,7 @@ accepted {n} {l} N K h =
       }) nil;
       numbers = K .numbers;
       rest-passes = cons (not-T (anyBelowAxis l) (λ g. let z = any-found (λ i. vertexAt l i .r ≺ neg e-9) (count l) g in
-      K .above (z .0) (z .1) (z .2))) nil;
+          K .above (z .0) (z .1) (z .2))) nil;
     })
 
 -- ---- the two builders
