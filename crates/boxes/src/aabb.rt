@@ -4,7 +4,8 @@ ghost use mathlib.Core.Bool.{not, _&&_, cond};
 ghost use lib.Ieee.{neg};
 ghost use Prim.Native.Nat.{_<_, _≤_};
 ghost use Rattle.arith.specs.F64.{_≺_, e-9};
-ghost use Rattle.profile.specs.Vertices.{on as onEdge, count, vertexAt, endAt, edgeAt, any, nearer, nearestOf};
+ghost use Rattle.profile.specs.Vertices as profile;
+ghost use Rattle.profile.specs.Vertices.{count, vertexAt, endAt, edgeAt, any, nearer, nearestOf};
 ghost use Rattle.segments.specs.Segments.{segments};
 ghost use Rattle.boxes.specs.Boxes.{corners, edgeBox, strictlyInsideAabb, middle, segmentThroughInterior};
 ghost use Rattle.boxes.specs.Boxes.{boxGap, boxPenetration, boxWitness, boxHolds, boxDistance};
@@ -132,7 +133,7 @@ fn box_penetration(s: &[f64], x: Aabb, witness: Witness) -> CollisionHit
 // Vertex k, if it lies well inside, takes over the witness, with the edge that starts there.
 fn witness_at(s: &[f64], x: Aabb, k: usize, at: Witness) -> Witness
     requires { ⌜ k < count (now s) ⌝ }
-    ensures { λ r. ⌜ r ≡ cond (strictlyInsideAabb x (vertexAt (now (s .entry)) k)) (onEdge k (vertexAt (now (s .entry)) k)) at ⌝ }
+    ensures { λ r. ⌜ r ≡ cond (strictlyInsideAabb x (vertexAt (now (s .entry)) k)) (profile.on k (vertexAt (now (s .entry)) k)) at ⌝ }
 {
     let v = vertex_at(s, k);
     if strictly_inside_aabb(v, x) {

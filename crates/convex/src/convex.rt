@@ -6,7 +6,8 @@ ghost use lib.Ieee.{neg};
 ghost use Prim.Native.Nat.{_<_, _≤_};
 ghost use Rattle.arith.specs.F64.{_≺_, 𝟘, e-9};
 ghost use Rattle.arith.specs.Num as num;
-ghost use Rattle.profile.specs.Vertices.{on as onEdge, hit, count, vertexAt, endAt, edgeAt, nearer, nearestOf};
+ghost use Rattle.profile.specs.Vertices as profile;
+ghost use Rattle.profile.specs.Vertices.{hit, count, vertexAt, endAt, edgeAt, nearer, nearestOf};
 ghost use Rattle.segments.specs.Segments.{closest, segments};
 ghost use Rattle.points.specs.Points.{pointDistance};
 ghost use Rattle.convex.specs.Convex.{convexRow, convexGap, orient, pointInConvex, convexNear, signedDistanceConvex};
@@ -163,7 +164,7 @@ fn deepest_corner(c: &[f64], s: &[f64], witness: Witness) -> CollisionHit
 }
 
 fn deeper_point(c: &[f64], k: usize, v: Vertex, best: CollisionHit) -> CollisionHit
-    ensures { λ r. ⌜ r ≡ nearer best (hit (signedDistanceConvex (now (c .entry)) v) (onEdge k v)) ⌝ }
+    ensures { λ r. ⌜ r ≡ nearer best (hit (signedDistanceConvex (now (c .entry)) v) (profile.on k v)) ⌝ }
 {
     let new = CollisionHit {
         distance: signed_distance_convex(c, v),
@@ -176,7 +177,7 @@ fn deeper_point(c: &[f64], k: usize, v: Vertex, best: CollisionHit) -> Collision
 // is not below 0, and needs no distance.
 fn deeper_vertex(c: &[f64], s: &[f64], j: usize, best: CollisionHit) -> CollisionHit
     requires { ⌜ j < count (now s) ⌝ }
-    ensures { λ r. ⌜ r ≡ nearer best (hit (signedDistanceConvex (now (c .entry)) (vertexAt (now (s .entry)) j)) (onEdge j (vertexAt (now (s .entry)) j))) ⌝ }
+    ensures { λ r. ⌜ r ≡ nearer best (hit (signedDistanceConvex (now (c .entry)) (vertexAt (now (s .entry)) j)) (profile.on j (vertexAt (now (s .entry)) j))) ⌝ }
 {
     let v = vertex_at(s, j);
     if best.distance <= 0.0 {
