@@ -9,6 +9,8 @@ use Rattle.profile.specs.Replies.{Reply, value, OfValue, Answers}
 use Rattle.bands.specs.declared.shapes.Cylinder.{Cylinder}
 use Rattle.walk.specs.declared.shapes.CountedHit.{CountedHit}
 use Rattle.settings.specs.declared.shapes.Settings.{Settings}
+use Rattle.section.specs.Demand.{FewEdges}
+use Rattle.section.proofs.Demand.Queries.{bounded-few}
 use Rattle.cylinders.specs.Promised.{Promised}
 use Rattle.capi.specs.Interface.{Gives, Measures, Places, Counts, CylinderPlaces}
 use Rattle.capi.specs.Interface.{hitPlaces, hitCounts, cylinderPlaces, both}
@@ -32,3 +34,8 @@ pub few : (s : List Float) (c : Cylinder) (t : Settings) {a : Reply CountedHit} 
 few s c t l e p =
     let q = subst (λ (x : Reply CountedHit). OfValue (Promised s c t) x) e p .few in
     (le-trans (q .boxes) l, le-trans (q .waiting) (lit≤ tt))
+
+-- and of its edge
+pub few-edges : (s : List Float) (c : Cylinder) (t : Settings) {a : Reply CountedHit} {h : CountedHit} → a ≡ value h
+    → OfValue (Promised s c t) a → FewEdges (h .hit)
+few-edges s c t {h = h} e p = bounded-few (h .hit) (subst (λ (x : Reply CountedHit). OfValue (Promised s c t) x) e p .bounded)

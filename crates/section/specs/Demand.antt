@@ -22,6 +22,10 @@ pub record AtMost (n : ℕ) (x : Float) : Type 0 where
 unfoldable pub offAxis : List Float → Bool
 offAxis s = any (λ k. e-9 ≺ abs (vertexAt s k .r)) (count s)
 
+-- the edge is one of at most 256
+abbrev pub FewEdges : CollisionHit → Type 0
+FewEdges h = h .witness .edge < 256
+
 -- a distance at most 2 ^ 28 and a witness at most 2 ^ 25 in magnitude, on one of the section's edges, of which there are few
 pub record Bounded (s : List Float) (h : CollisionHit) : Type 0 where
   pub distance : AtMost 28 (h .distance)

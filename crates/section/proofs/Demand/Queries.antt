@@ -2,13 +2,14 @@
 use Prim.Native.Nat.{ℕ}
 use mathlib.Core.List.{List, [], _∷_, _++_}
 use mathlib.Core.Path.{_≡_}
+use native.Mathlib.Nat.{lt-of-lt-of-le}
 use lib.Dec.{T, leb}
 use lib.Ieee.{Float}
 use Rattle.arith.specs.declared.vector.Vec3.{Vec3}
 use Rattle.section.specs.Answers.{boxAnswer, convexAnswer, pointAnswer, sphereAnswer}
 use Rattle.boxes.specs.Boxes.{boxDistance}
 use Rattle.convex.specs.Convex.{convexDistance}
-use Rattle.section.specs.Demand.{Bounded, BoundedOffAxis, AtMost}
+use Rattle.section.specs.Demand.{Bounded, BoundedOffAxis, AtMost, FewEdges}
 use Rattle.points.specs.Points.{meridian, pointDistance, sphereDistance}
 use Rattle.profile.specs.Refusals.{boxNumbers, boxTests, boundsTests, convexTests, pointNumbers, pointTests, radiusTests}
 use Rattle.profile.specs.Refusals.{Test, refusal, sphereNumbers, sphereTests}
@@ -54,6 +55,13 @@ hit-boundedOffAxis S H t =
       edge = best-witness B .edge;
       few = S .few;
     }
+
+-- every hit's edge is one of at most 256
+pub bounded-few : {s : List Float} (h : CollisionHit) → Bounded s h → FewEdges h
+bounded-few h B = lt-of-lt-of-le (B .edge) (B .few)
+
+pub boundedOffAxis-few : {s : List Float} (h : CollisionHit) → BoundedOffAxis s h → FewEdges h
+boundedOffAxis-few h B = lt-of-lt-of-le (B .edge) (B .few)
 
 vec3-atMost : {p : Vec3} {rest : List Float} → All (AtMost 20) (p .x ∷ p .y ∷ p .z ∷ rest) → Vec3AtMost 20 p
 vec3-atMost (cons x (cons y (cons z h))) = record { x = x; y = y; z = z }

@@ -6,6 +6,9 @@ use Rattle.capi.proofs.distances.give.Tie as tie
 enum-known-answer : tie.Need-enum-known-answer
 enum-known-answer c = search needs
 
+cast-edge : tie.Need-cast-edge
+cast-edge c = ?
+
 enum-known-answer-2 : tie.Need-enum-known-answer-2
 enum-known-answer-2 c = search needs
 
@@ -20,4 +23,4 @@ returns-2 c =
     record { returned = rw told; lent = rw told }
 
 pub give-spec : {M : Type 1} → statement M
-give-spec = tie.close (tie.spec enum-known-answer enum-known-answer-2 returns returns-2)
+give-spec = tie.close (tie.spec enum-known-answer cast-edge enum-known-answer-2 returns returns-2)

@@ -1,5 +1,8 @@
 -- `capi::distances::jorghipa_sphere` meets its contract: the answer's case in the lent places.
 use borrow.Author.Needs.{needs}
+use Rattle.profile.proofs.Replies.{owed}
+use Rattle.section.specs.Demand.{BoundedOffAxis, FewEdges}
+use Rattle.section.proofs.Demand.Queries.{boundedOffAxis-few}
 use Rattle.capi.proofs.Same.{measures}
 use Rattle.capi.proofs.distances.jorghipa_sphere.Statement.{statement}
 use Rattle.capi.proofs.distances.jorghipa_sphere.Tie as tie
@@ -8,10 +11,11 @@ query-sphere-requires : tie.Need-query-sphere-requires
 query-sphere-requires c κs = search needs
 
 give-requires : tie.Need-give-requires
-give-requires c κs = search needs
+give-requires c κs =
+    owed (BoundedOffAxis _) FewEdges boundedOffAxis-few _ (c .before .before .before .before .query-sphere .ensures .owed)
 
 returns : tie.Need-returns
-returns c = measures (c .before .before .before .before .query-sphere .ensures) (c .give .ensures)
+returns c = measures (c .before .before .before .before .before .query-sphere .ensures) (c .give .ensures)
 
 pub jorghipa-sphere-spec : {M : Type 1} → statement M
 jorghipa-sphere-spec = tie.close (tie.spec query-sphere-requires give-requires returns)

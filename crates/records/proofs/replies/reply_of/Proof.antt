@@ -6,6 +6,9 @@ use Rattle.records.proofs.replies.reply_of.Tie as tie
 enum-known-answer : tie.Need-enum-known-answer
 enum-known-answer c = search needs
 
+cast-edge : tie.Need-cast-edge
+cast-edge c = ?
+
 enum-known-answer-2 : tie.Need-enum-known-answer-2
 enum-known-answer-2 c = search needs
 
@@ -16,4 +19,4 @@ returns-2 : tie.Need-returns-2
 returns-2 c = rw (c .before .answer2 .given .1)
 
 pub reply-of-spec : {M : Type 1} → statement M
-reply-of-spec = tie.close (tie.spec enum-known-answer enum-known-answer-2 returns returns-2)
+reply-of-spec = tie.close (tie.spec enum-known-answer cast-edge enum-known-answer-2 returns returns-2)
