@@ -21,7 +21,7 @@ give-counts-requires c κs =
 
 give-requires : tie.Need-give-requires
 give-requires c κs =
-    let d = c .before .before .before .before .before .before .before .before .before in
+    let d = c .before .before .before .before .before .before .before .before .before .before in
     few-edges _ _ _ (ap told (d .answer .given .1)) (d .before .before .query-cylinder .ensures .owed)
 
 enum-known-answer-2 : tie.Need-enum-known-answer-2
@@ -29,9 +29,9 @@ enum-known-answer-2 c = search needs
 
 returns : tie.Need-returns
 returns c =
-    let d = c .before .before .before .before .before .before .before .before .before .before in
+    let d = c .before .before .before .before .before .before .before .before .before .before .before in
     measures (d .before .before .query-cylinder .ensures)
-    (walked (ap told (d .answer .given .1)) (c .give .ensures) (c .before .before .before .before .give-counts .ensures))
+    (walked (ap told (d .answer .given .1)) (c .give .ensures) (c .before .before .before .before .before .give-counts .ensures))
 
 returns-2 : tie.Need-returns-2
 returns-2 c =

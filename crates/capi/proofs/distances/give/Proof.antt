@@ -1,5 +1,5 @@
 -- `capi::distances::give` meets its contract, by the answer's case.
-use borrow.Author.Needs.{needs}
+use borrow.Author.Needs.{fits-under, needs}
 use Rattle.capi.proofs.distances.give.Statement.{statement}
 use Rattle.capi.proofs.distances.give.Tie as tie
 
@@ -7,14 +7,16 @@ enum-known-answer : tie.Need-enum-known-answer
 enum-known-answer c = search needs
 
 cast-edge : tie.Need-cast-edge
-cast-edge c = ?
+cast-edge c =
+    let start = c .before .before .before in
+    fits-under _ _ 256 (rw (start .answer .given .1) at (start .before .before .pre)) tt
 
 enum-known-answer-2 : tie.Need-enum-known-answer-2
 enum-known-answer-2 c = search needs
 
 returns : tie.Need-returns
 returns c =
-    let told = c .before .before .answer .given .1 in
+    let told = c .before .before .before .answer .given .1 in
     record { returned = rw told; lent = rw told }
 
 returns-2 : tie.Need-returns-2

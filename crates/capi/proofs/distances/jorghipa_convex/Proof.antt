@@ -1,9 +1,7 @@
 -- `capi::distances::jorghipa_convex` meets its contract: the answer's case in the lent places.
 use borrow.Author.Needs.{needs}
-use Rattle.profile.proofs.Replies.{owed}
-use Rattle.section.specs.Demand.{Bounded, FewEdges}
 use Rattle.section.proofs.Demand.Queries.{bounded-few}
-use Rattle.capi.proofs.Same.{measures}
+use Rattle.capi.proofs.Same.{measures, owes}
 use Rattle.capi.proofs.distances.jorghipa_convex.Statement.{statement}
 use Rattle.capi.proofs.distances.jorghipa_convex.Tie as tie
 
@@ -11,8 +9,7 @@ convex-polygon-distance-requires : tie.Need-convex-polygon-distance-requires
 convex-polygon-distance-requires c κs = search needs
 
 give-requires : tie.Need-give-requires
-give-requires c κs =
-    owed (Bounded _) FewEdges bounded-few _ (c .before .before .before .before .convex-polygon-distance .ensures .owed)
+give-requires c κs = owes bounded-few (c .before .before .before .before .convex-polygon-distance .ensures)
 
 returns : tie.Need-returns
 returns c = measures (c .before .before .before .before .before .convex-polygon-distance .ensures) (c .give .ensures)

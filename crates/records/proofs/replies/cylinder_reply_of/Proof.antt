@@ -1,5 +1,5 @@
 -- `records::replies::cylinder_reply_of` meets its contract, by the answer's case.
-use borrow.Author.Needs.{needs}
+use borrow.Author.Needs.{fits-under, needs}
 use Rattle.records.proofs.replies.cylinder_reply_of.Statement.{statement}
 use Rattle.records.proofs.replies.cylinder_reply_of.Tie as tie
 
@@ -7,7 +7,9 @@ enum-known-answer : tie.Need-enum-known-answer
 enum-known-answer c = search needs
 
 cast-edge : tie.Need-cast-edge
-cast-edge c = ?
+cast-edge c =
+    let start = c .before .before .before in
+    fits-under _ _ 256 (rw (start .answer .given .1) at (start .before .before .pre)) tt
 
 enum-known-answer-2 : tie.Need-enum-known-answer-2
 enum-known-answer-2 c = search needs
