@@ -128,11 +128,12 @@ pub fn reply_of(answer: Answer) -> Reply
     match answer {
         Answer::Hit(h) => {
             let at = h.witness;
+            let edge = at.edge as u32;
             Reply {
                 distance: h.distance,
                 witness_z: at.z,
                 witness_radius: at.r,
-                edge: at.edge as u32,
+                edge,
                 number: 0,
             }
         }
@@ -154,11 +155,12 @@ pub fn cylinder_reply_of(answer: CountedAnswer) -> CylinderReply
         CountedAnswer::Hit(h) => {
             let hit = h.hit;
             let at = hit.witness;
+            let edge = at.edge as u32;
             CylinderReply {
                 distance: hit.distance,
                 witness_z: at.z,
                 witness_radius: at.r,
-                edge: at.edge as u32,
+                edge,
                 boxes: h.boxes,
                 waiting: h.waiting,
                 number: 0,

@@ -8,14 +8,14 @@ enum-known-answer c = search needs
 
 cast-edge : tie.Need-cast-edge
 cast-edge c =
-    let start = c .before .before in
+    let start = c .before .before .before in
     fits-under _ _ 256 (rw (start .answer .given .1) at (start .before .before .pre)) tt
 
 enum-known-answer-2 : tie.Need-enum-known-answer-2
 enum-known-answer-2 c = search needs
 
 returns : tie.Need-returns
-returns c = rw (c .before .before .answer .given .1)
+returns c = rw (c .before .before .before .answer .given .1)
 
 returns-2 : tie.Need-returns-2
 returns-2 c = rw (c .before .answer2 .given .1)
