@@ -1,5 +1,6 @@
 //! A query and an answer, and their lines in the fixed list.
 
+use edges::Hit;
 use std::fmt::Write;
 use table::Settings;
 
@@ -158,12 +159,13 @@ pub enum Answer {
     Spoilt(u32),
     /// The form over records answers something else, its line.
     Split(String),
-    /// A root, or distance, witness z and witness radius.
-    Values(Vec<f64>),
+    Root(f64),
+    /// Distance, witness and edge.
+    Hit(Hit),
     /// How many numbers are kept, and the whole space afterwards.
     Built(usize, Vec<f64>),
-    /// Distance, witness z and witness radius; boxes, most waiting, cut.
-    Walked([f64; 3], [u32; 3]),
+    /// A hit; boxes, most waiting, cut.
+    Walked(Hit, [u32; 3]),
     /// True is a collision.
     Verdict(bool),
 }
@@ -175,6 +177,15 @@ fn same(a: f64, b: f64) -> bool {
 
 fn all_same(a: &[f64], b: &[f64]) -> bool {
     a.len() == b.len() && a.iter().zip(b).all(|(&a, &b)| same(a, b))
+}
+
+fn same_hit(a: &Hit, b: &Hit) -> bool {
+    all_same(&floats(a), &floats(b)) && a.edge == b.edge
+}
+
+/// Distance, witness z and witness radius.
+pub fn floats(hit: &Hit) -> [f64; 3] {
+    [hit.distance, hit.witness.0, hit.witness.1]
 }
 
 impl Answer {
@@ -194,8 +205,9 @@ impl Answer {
     pub fn same(&self, other: &Answer) -> bool {
         match (self, other) {
             (Answer::Refused(a), Answer::Refused(b)) => a == b,
-            (Answer::Values(a), Answer::Values(b)) => all_same(a, b),
-            (Answer::Walked(a, m), Answer::Walked(b, n)) => all_same(a, b) && m == n,
+            (Answer::Root(a), Answer::Root(b)) => same(*a, *b),
+            (Answer::Hit(a), Answer::Hit(b)) => same_hit(a, b),
+            (Answer::Walked(a, m), Answer::Walked(b, n)) => same_hit(a, b) && m == n,
             (Answer::Verdict(a), Answer::Verdict(b)) => a == b,
             (Answer::Built(m, a), Answer::Built(n, b)) => {
                 // The rest of the space must keep its very bits.
@@ -212,11 +224,10 @@ impl Answer {
             Answer::Refused(number) => format!("refused {number}"),
             Answer::Spoilt(number) => format!("refused {number}, lent places changed"),
             Answer::Split(_) => "records answer otherwise".into(),
-            Answer::Values(values) if values.len() == 3 => side(values[0]).into(),
-            Answer::Values(values) if values[0].is_finite() => "finite".into(),
-            Answer::Values(_) => "not finite".into(),
+            Answer::Root(root) => if root.is_finite() { "finite" } else { "not finite" }.into(),
+            Answer::Hit(hit) => side(hit.distance).into(),
             Answer::Built(..) => "built".into(),
-            Answer::Walked(hit, [_, _, 0]) => side(hit[0]).into(),
+            Answer::Walked(hit, [_, _, 0]) => side(hit.distance).into(),
             Answer::Walked(..) => "cut".into(),
             Answer::Verdict(collision) => if *collision { "collision" } else { "clear" }.into(),
         }
@@ -227,13 +238,15 @@ impl Answer {
             let words: Vec<String> = values.iter().map(|&x| format!("{:016x}", output_bits(x))).collect();
             words.join(" ")
         };
+        let line = |hit: &Hit| format!("{} {}", hex(&floats(hit)), hit.edge);
         match self {
             Answer::Refused(number) => format!("refused {number}"),
             Answer::Spoilt(number) => format!("refused {number} (lent places changed)"),
             Answer::Split(records) => format!("over records: {records}"),
-            Answer::Values(values) => hex(values),
+            Answer::Root(root) => hex(&[*root]),
+            Answer::Hit(hit) => line(hit),
             Answer::Built(kept, space) => format!("{kept} {}", hex(&space[..*kept])),
-            Answer::Walked(hit, [boxes, waiting, cut]) => format!("{} {boxes} {waiting} {cut}", hex(hit)),
+            Answer::Walked(hit, [boxes, waiting, cut]) => format!("{} {boxes} {waiting} {cut}", line(hit)),
             Answer::Verdict(collision) => u32::from(*collision).to_string(),
         }
     }
@@ -282,7 +295,11 @@ mod tests {
 
     #[test]
     fn zeros_are_one_value_but_not_in_the_rest_of_the_space() {
-        assert!(Answer::Values(vec![0.0]).same(&Answer::Values(vec![-0.0])));
+        assert!(Answer::Root(0.0).same(&Answer::Root(-0.0)));
+        let hit = |distance, z, edge| Answer::Hit(Hit { distance, witness: (z, 0.0), edge });
+        assert!(hit(0.0, -0.0, 1).same(&hit(-0.0, 0.0, 1)));
+        assert!(!hit(0.0, 0.0, 1).same(&hit(0.0, 0.0, 2)));
+        assert_eq!(hit(-0.0, 20.0, 1).line(), "0000000000000000 4034000000000000 0000000000000000 1");
         assert!(Answer::Built(1, vec![0.0, 1.0]).same(&Answer::Built(1, vec![-0.0, 1.0])));
         assert!(!Answer::Built(1, vec![1.0, 0.0]).same(&Answer::Built(1, vec![1.0, -0.0])));
         assert!(!Answer::Refused(3).same(&Answer::Spoilt(3)));

@@ -1,6 +1,6 @@
 //! Request (viii)'s number of the edge that supplied a hit's witness: document 01's steps, written from its text over the
 //! Rust's own functions for one edge. The Rust has no such number. Its distance and witness must come out here too, zeros of
-//! both signs as one value: every function below panics where they do not, and is None where the Rust refuses.
+//! both signs as one value: `point`, `sphere`, `aabb` and `convex` panic where they do not, and are None where the Rust refuses.
 
 use revolve_exact::probe::{self, Pair};
 use revolve_exact::{Sphere, Vec3, aabb_polygon_distance, convex_polygon_distance};
@@ -48,30 +48,23 @@ fn touching(distance: f64) -> f64 {
     if distance <= 1e-12 { 0.0 } else { distance }
 }
 
-/// Point distance. An edge counts only if an end has |radius| > 1e-9; the first strictly smallest distance wins.
-fn signed(section: &[Pair], point: Pair) -> Hit {
+/// Point distance of z and radius, not compared. An edge counts only if an end has |radius| > 1e-9; the first strictly
+/// smallest distance wins.
+pub fn point_by_steps(section: &[Pair], point: Pair) -> Hit {
     let counts = |(a, b): (Pair, Pair)| a.1.abs() > 1e-9 || b.1.abs() > 1e-9;
     let counting = edges(section).filter(|&(_, edge)| counts(edge));
-    let nearest = counting
-        .map(|(k, edge)| Hit::of(probe::closest_point(point, edge), k))
-        .fold(nowhere(section), Hit::or_lower);
+    let nearest =
+        counting.map(|(k, edge)| Hit::of(probe::closest_point(point, edge), k)).fold(nowhere(section), Hit::or_lower);
     let distance = touching(nearest.distance);
     let negative = 0.0 < distance && distance < f64::INFINITY && probe::inside(section, point);
     Hit { distance: if negative { -distance } else { distance }, ..nearest }
-}
-
-/// Of a point in z and radius.
-pub fn point_distance(section: &[Pair], point: Pair) -> Option<Hit> {
-    agreed(Some(probe::point_distance(section, point)), || signed(section, point))
 }
 
 /// Of the point x, y, z.
 pub fn point(section: &[Pair], body: [f64; 3]) -> Option<Hit> {
     let [x, y, z] = body;
     let center = Vec3::new(x, y, z);
-    agreed(probe::point(&probe::solid(section), center), || {
-        signed(section, (z, Vec3::new(x, y, 0.0).length()))
-    })
+    agreed(probe::point(&probe::solid(section), center), || point_by_steps(section, (z, Vec3::new(x, y, 0.0).length())))
 }
 
 /// Of the sphere x, y, z, radius: point distance less radius.
@@ -85,7 +78,7 @@ pub fn sphere(section: &[Pair], body: [f64; 4]) -> Option<Hit> {
 
 /// Of one edge and a box: a clipped edge has 0, its witness where the clip enters; any other takes the first smallest of the
 /// four sides.
-fn beside_box(edge: (Pair, Pair), bounds: [f64; 4]) -> probe::Hit {
+pub fn beside_box(edge: (Pair, Pair), bounds: [f64; 4]) -> probe::Hit {
     if let Some((enter, _)) = probe::clip(edge, bounds) {
         return (0.0, enter);
     }
@@ -111,11 +104,13 @@ pub fn last_inside(section: &[Pair], bounds: [f64; 4]) -> Option<(Pair, u32)> {
     section.iter().copied().zip(0..).filter(|&(vertex, _)| well_inside(vertex, bounds)).last()
 }
 
-fn box_hit(section: &[Pair], bounds: [f64; 4]) -> Hit {
+/// `aabb`, not compared.
+pub fn box_by_steps(section: &[Pair], bounds: [f64; 4]) -> Hit {
     let [z0, z1, r0, r1] = bounds;
     let gap = box_gap(section, bounds);
     let centre = ((z0 + z1) * 0.5, (r0 + r1) * 0.5);
-    let probes = [centre, (z0, r0), (z1, r0), (z1, r1), (z0, r1)].into_iter().map(|probe| signed(section, probe));
+    let probes =
+        [centre, (z0, r0), (z1, r0), (z1, r1), (z0, r1)].into_iter().map(|probe| point_by_steps(section, probe));
     let lowest = probes.fold(Hit { distance: 0.0, ..gap }, Hit::or_lower);
     let vertex = last_inside(section, bounds);
     let (witness, edge) = vertex.unwrap_or((lowest.witness, lowest.edge));
@@ -136,7 +131,7 @@ fn box_hit(section: &[Pair], bounds: [f64; 4]) -> Hit {
 /// Of the box z0, z1, r0, r1.
 pub fn aabb(section: &[Pair], bounds: [f64; 4]) -> Option<Hit> {
     let [z0, z1, r0, r1] = bounds;
-    agreed(aabb_polygon_distance(z0, z1, r0, r1, section), || box_hit(section, bounds))
+    agreed(aabb_polygon_distance(z0, z1, r0, r1, section), || box_by_steps(section, bounds))
 }
 
 /// Every pair of edges, the convex body's outer: the section's edge with its number, then the body's.
@@ -148,7 +143,7 @@ fn convex_hit(convex: &[Pair], section: &[Pair]) -> Hit {
     let gap = pairs(convex, section)
         .map(|(k, edge, other)| Hit::of(probe::two_segments(edge, other), k))
         .fold(nowhere(section), Hit::or_lower);
-    let corners = convex.iter().map(|&corner| signed(section, corner));
+    let corners = convex.iter().map(|&corner| point_by_steps(section, corner));
     let vertices = section.iter().zip(0..).map(|(&v, k)| Hit::of((probe::convex_distance(convex, v), v), k));
     let lowest = corners.chain(vertices).fold(Hit { distance: 0.0, ..gap }, Hit::or_lower);
     let distance = if lowest.distance < -1e-9 {

@@ -1,10 +1,9 @@
 //! Document 01's store and its listing, written from 01's text, with 02's numbers for a length. Distances are those of
-//! the published Rust with the exact hypot; refusal numbers are those of the table.
+//! the published Rust with the exact hypot, the edge comes from 01's steps; refusal numbers are those of the table.
 
 pub mod stores;
 
-use revolve_exact::probe::{self, Hit};
-use revolve_exact::{Sphere, Vec3, aabb_polygon_distance};
+use edges::Hit;
 use std::fmt::Write;
 
 pub const RECORD: usize = 40;
@@ -83,22 +82,20 @@ fn chain(records: &[Record]) -> Result<Vec<usize>, Refusal> {
 }
 
 fn line(text: &mut String, k: usize, record: &Record, section: &[f64]) {
-    let [a, b, c, d] = record.numbers;
     let vertices: Vec<(f64, f64)> = section.chunks(2).map(|v| (v[0], v[1])).collect();
-    let (accepted, hit): (Result<(), u32>, Option<Hit>) = match record.kind {
-        2 => (
-            table::sphere(section, record.numbers, &[]),
-            probe::sphere(&probe::solid(&vertices), Sphere { center: Vec3::new(a, b, c), radius: d }),
-        ),
-        3 => (table::aabb(section, record.numbers, &[]), aabb_polygon_distance(a, b, c, d, &vertices)),
+    let body = record.numbers;
+    let answer = match record.kind {
+        2 => table::sphere(section, body, &[]).map(|()| edges::sphere(&vertices, body)),
+        3 => table::aabb(section, body, &[]).map(|()| edges::aabb(&vertices, body)),
         _ => return,
     };
-    if let Err(number) = accepted {
-        writeln!(text, "{k} refused {number}").unwrap();
-        return;
+    match answer {
+        Err(number) => writeln!(text, "{k} refused {number}").unwrap(),
+        Ok(hit) => {
+            let Hit { distance, witness: (z, radius), edge } = hit.expect("an accepted body has a distance");
+            writeln!(text, "{k} {} {} {} {edge}", bits(distance), bits(z), bits(radius)).unwrap();
+        }
     }
-    let (distance, (z, radius)) = hit.expect("an accepted body has a distance");
-    writeln!(text, "{k} {} {} {}", bits(distance), bits(z), bits(radius)).unwrap();
 }
 
 /// 16 digits; a zero always as +0.
@@ -114,7 +111,7 @@ mod tests {
 
     #[test]
     fn the_example_of_01() {
-        let lines = "section 4\n5 4014000000000000 4034000000000000 0000000000000000\n";
+        let lines = "section 4\n5 4014000000000000 4034000000000000 0000000000000000 1\n";
         assert_eq!(listing(&example()), lines);
     }
 

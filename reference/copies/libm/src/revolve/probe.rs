@@ -30,11 +30,6 @@ pub fn sphere(solid: &RevolvedSolid, sphere: Sphere) -> Option<Hit> {
     (sphere.radius >= 0.0).then_some((distance - sphere.radius, witness))
 }
 
-/// `signed_distance_2d`.
-pub fn point_distance(section: &[Pair], (z, radius): Pair) -> Hit {
-    signed_distance_2d(section, z, radius)
-}
-
 /// `in_section`.
 pub fn inside(section: &[Pair], (z, radius): Pair) -> bool {
     in_section(section, z, radius)
