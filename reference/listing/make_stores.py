@@ -98,6 +98,16 @@ STORES = {
     "largest": in_order(vertices(S[:3]) + [sphere(k / 8, 100, 1, 5) for k in range(508)]),
     # longer than one read of 4,096 bytes, and the chain begins behind it
     "two_reads": backwards(in_order(vertices(S) + [sphere(k / 8, 100, 1, 5) for k in range(100)])),
+    # S from its axis edge on, with vertices that come twice; bodies that touch a corner or hold vertices
+    "edges": in_order(
+        vertices([(20, 0), (0, 0), (0, 10), (0, 10), (20, 10), (20, 10)]) + BODIES
+        + [sphere(14, 0, 23, 1), box(20, 25, 10, 15), box(-5, 26, -5, 16), box(16, 30, 9, 12), box(5, 15, -4, -2)]
+    ),
+    # every body is nearest to the last edge, which has two digits: the longest listing
+    "longest": in_order(
+        vertices([(k, 0) for k in range(10)] + [(10, 5)]) + [sphere(5 + k / 32, 0, 0, 1) for k in range(500)]
+    ),
+    "edge_255": in_order(vertices([(k, 0) for k in range(255)] + [(255, 5)]) + [sphere(20, 0, 100, 1), box(1, 2, -3, -2)]),
     "bytes_1": bytes(1),
     "bytes_20481": bytes(20481),
     "bytes_20521": bytes(20521),

@@ -107,12 +107,31 @@ fn bits(x: f64) -> String {
 #[cfg(test)]
 mod tests {
     use super::*;
-    use crate::stores::{example, store};
+    use crate::stores::{S, example, in_order, longest, store};
 
     #[test]
     fn the_example_of_01() {
         let lines = "section 4\n5 4014000000000000 4034000000000000 0000000000000000 1\n";
         assert_eq!(listing(&example()), lines);
+    }
+
+    /// The last field of each line.
+    fn edges(store: &[u8]) -> Vec<String> {
+        listing(store).lines().skip(1).map(|line| line.rsplit(' ').next().unwrap().to_string()).collect()
+    }
+
+    #[test]
+    fn the_last_field_is_the_edge() {
+        let bodies = [
+            (2, [0.0, 0.0, 10.0, 1.0]),
+            (2, [5.0, 0.0, -2.0, 1.0]),
+            (3, [-5.0, 25.0, 5.0, 15.0]),
+            (3, [5.0, 4.0, 0.0, 5.0]),
+            (3, [20.0, 25.0, 10.0, 15.0]),
+        ];
+        assert_eq!(edges(&in_order(&S, &bodies)), ["0", "3", "1", "10", "0"]);
+        assert!(listing(&in_order(&S, &bodies)).contains("8 refused 10\n"));
+        assert_eq!(edges(&longest()), vec!["10"; 500]);
     }
 
     #[test]
