@@ -1,6 +1,7 @@
 //! The fixed list: queries of every kind and every refusal, from a seed, with the Rust's answers (or the table's).
 
-use crate::query::{Answer, Kind, Query, numbers_of};
+use crate::answer::Answer;
+use crate::query::{Kind, Query, numbers_of};
 use crate::random::Random;
 use crate::{generate, judge, near};
 use std::collections::BTreeMap;

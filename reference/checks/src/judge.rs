@@ -2,7 +2,8 @@
 //! from document 01's steps, whose distance and witness have to be the Rust's; a cylinder from the second implementation of the
 //! walk, which at the finest settings has to agree with the Rust.
 
-use crate::query::{Answer, FILL, Kind, Query};
+use crate::answer::Answer;
+use crate::query::{FILL, Kind, Query};
 use crate::walk::{self, Walked};
 use edges::Hit;
 use revolve_exact::probe;

@@ -1,8 +1,9 @@
 //! The port's answer, through the crate jorghipa. A refused call is made once more, on places whose content is known, to
 //! see that it leaves them as they were.
 
+use crate::answer::{Answer, floats};
 use crate::judge;
-use crate::query::{Answer, Kind, Query, floats};
+use crate::query::{Kind, Query};
 use jorghipa::{Aabb, Cylinder, CylinderHit, Hit, Point, Refusal, Settings, Sphere, raw};
 
 pub fn answer(query: &Query) -> Answer {

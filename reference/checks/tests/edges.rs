@@ -1,8 +1,9 @@
 //! The edge of a hit: hand-computed ones, and wrong judges, each of which the generated queries must find out.
 
+use checks::answer::Answer;
 use checks::generate;
 use checks::judge::{expected, vertices};
-use checks::query::{Answer, Kind, Query};
+use checks::query::{Kind, Query};
 use checks::random::Random;
 use checks::walk::{self, Band};
 use edges::{Hit, box_gap, edges, last_inside};

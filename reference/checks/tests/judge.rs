@@ -1,9 +1,10 @@
 //! The judge itself: document 01's readings, and the probe beside the Rust's public functions.
 
+use checks::answer::Answer;
 use checks::fixed;
 use checks::generate;
 use checks::judge::{expected, vertices};
-use checks::query::{Answer, Kind, Query};
+use checks::query::{Kind, Query};
 use checks::random::Random;
 use checks::walk;
 use edges::Hit;

@@ -7,9 +7,10 @@ mod cylinder;
 mod point;
 mod settings;
 
+use crate::answer::Answer;
 use crate::generate::{self, Style, list, rotated};
 use crate::judge;
-use crate::query::{Answer, Kind, Query};
+use crate::query::{Kind, Query};
 use crate::random::{Random, within_four};
 
 /// A query, the number that is compared in it, and what with.
