@@ -19,6 +19,8 @@ const REFUSALS: usize = 3;
 const SMALL: usize = 24;
 const LARGE: usize = 128;
 const LARGEST: usize = 600;
+/// The largest space of a builder that `replay` can lend.
+const SPACE: usize = 1024;
 
 /// The numbers that a kind can be refused with.
 pub fn refusals(kind: Kind) -> &'static [u32] {
@@ -218,7 +220,7 @@ fn drawn(random: &mut Random, kind: Kind) -> Vec<Query> {
         let query = generate::query(random, kind);
         let numbers = query.lists.iter().map(Vec::len).sum::<usize>();
         let keep = match judge::expected(&query) {
-            _ if numbers > LARGEST => false,
+            _ if numbers > LARGEST || query.space > SPACE => false,
             Answer::Refused(number) => {
                 let count = refused.entry(number).or_default();
                 *count += 1;
