@@ -133,7 +133,7 @@ fn box_penetration(s: &[f64], x: Aabb, witness: Witness) -> CollisionHit
 // Vertex k, if it lies well inside, takes over the witness, with the edge that starts there.
 fn witness_at(s: &[f64], x: Aabb, k: usize, at: Witness) -> Witness
     requires { ⌜ k < count (now s) ⌝ }
-    ensures { λ r. ⌜ r ≡ cond (strictlyInsideAabb x (vertexAt (now (s .entry)) k)) (profile.on k (vertexAt (now (s .entry)) k)) at ⌝ }
+    ensures { λ r. ⌜ (let v = vertexAt (now (s .entry)) k in r ≡ cond (strictlyInsideAabb x v) (profile.on k v) at) ⌝ }
 {
     let v = vertex_at(s, k);
     if strictly_inside_aabb(v, x) {

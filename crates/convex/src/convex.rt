@@ -177,7 +177,8 @@ fn deeper_point(c: &[f64], k: usize, v: Vertex, best: CollisionHit) -> Collision
 // is not below 0, and needs no distance.
 fn deeper_vertex(c: &[f64], s: &[f64], j: usize, best: CollisionHit) -> CollisionHit
     requires { ⌜ j < count (now s) ⌝ }
-    ensures { λ r. ⌜ r ≡ nearer best (hit (signedDistanceConvex (now (c .entry)) (vertexAt (now (s .entry)) j)) (profile.on j (vertexAt (now (s .entry)) j))) ⌝ }
+    ensures { λ r. ⌜ (let v = vertexAt (now (s .entry)) j in
+        r ≡ nearer best (hit (signedDistanceConvex (now (c .entry)) v) (profile.on j v))) ⌝ }
 {
     let v = vertex_at(s, j);
     if best.distance <= 0.0 {

@@ -24,7 +24,8 @@ use Rattle.store.specs.Kinds.{rightKind}
 use Rattle.store.specs.Radii.{belowAxis}
 use Rattle.store.specs.Store.{vertices, lengthAnswer, sectionAnswer, storeAnswer, chained}
 use Rattle.store_listing.specs.Text.{text, decimalAtMost, decimal, hex, bits}
-use Rattle.store_listing.specs.Listing.{bodyAnswer, fieldText, edgeText, hitText, bodyLine, sectionLine, refusalLine, acceptedText, listing}
+use Rattle.store_listing.specs.Listing.{bodyAnswer, fieldText, edgeText, hitText, bodyLine, sectionLine, refusalLine}
+use Rattle.store_listing.specs.Listing.{acceptedText, listing}
 
 -- the n low bytes of x, the lowest first
 unfoldable pub lowBytes : ℕ → ℕ → List ℕ
@@ -50,6 +51,6 @@ unfolding add sub mul div neg lt le eq ofInt ofBits toBits isFinite hypot upto a
     surfaceStep surfaceNear crosses pointInside insideAxisEdge inSection pointDistance clipSide clip edgeBox
     strictlyInsideAabb segmentThroughInterior boxGap boxPenetration boxWitness boxHolds resultOf boxDistance anyOf
     anyBelowAxis refusal boxAnswer littleEndian next kind number follow chain rightKind firstRefused belowAxis vertices
-    lengthAnswer sectionAnswer storeAnswer chained text decimalAtMost decimal hex bits bodyAnswer fieldText edgeText hitText bodyLine sectionLine refusalLine
-    acceptedText listing lowBytes recordBytes example flatMap
+    lengthAnswer sectionAnswer storeAnswer chained text decimalAtMost decimal hex bits bodyAnswer fieldText edgeText hitText
+    bodyLine sectionLine refusalLine acceptedText listing lowBytes recordBytes example flatMap
 example-lists = refl

@@ -5,7 +5,7 @@ use Prim.Native.Nat.{ℕ, zero, suc, _+_, _*_, _<_, _≤_, max}
 use native.Mathlib.Omega.{arith}
 use mathlib.Core.Bool.{Bool, true, false, not, _||_, cond}
 use mathlib.Core.List.{List, [], _∷_, _++_, flatMap}
-use mathlib.Core.Logic.{⊎-elim}
+use mathlib.Core.Logic.{_⊎_, inl, inr}
 use mathlib.Core.Path.{_≡_, refl}
 use lib.ListN.{length, length-append}
 use lib.Dec.{eqb}
@@ -15,6 +15,7 @@ use Rattle.profile.specs.Vertices.{count}
 use Rattle.profile.specs.Refusals.{sphereTests, boxTests}
 use Rattle.profile.specs.Replies.{reply}
 use Rattle.profile.proofs.Refusals.Ordered.{refusal-most}
+use Rattle.profile.proofs.Refusals.Passed.{Counted}
 use Rattle.section.specs.Answers.{sphereAnswer, boxAnswer}
 use Rattle.section.proofs.Demand.Queries.{sphere-bounded, box-bounded}
 use Rattle.profile.specs.declared.shapes.CollisionHit.{CollisionHit}
@@ -151,21 +152,20 @@ module _ (b : List ℕ) (good : storeAnswer b ≡ Accepted) where
       )
 
   pub every-listing-fits : size ≤ 28923
-  every-listing-fits =
-      let n = count section in
-      let few = section-accepted section (accepted-sound b good .section) in
-      ⊎-elim
-      (λ (ten : 11 ≤ n).
-      ⊎-elim
-      (λ (hundred : 100 ≤ n).
-      omega (
-        arith,
-        few-digits 2 n (omega (arith, few .few)),
-        listing-size 3 (all-bodies .2) (λ e h. few-digits 2 e (omega (arith, few .few))),
-      ))
-      (λ (hundred : n < 100).
-      omega (arith, few-digits 1 n (omega arith), listing-size 2 (all-bodies .1) (λ e h. few-digits 1 e (omega arith))))
-      (decide 100 n))
-      (λ (ten : n < 11).
-      omega (arith, few .enough, few-digits 1 n (omega arith), listing-size 1 (all-bodies .0) (λ e h. few-digits 0 e (omega arith))))
-      (decide 11 n)
+  every-listing-fits = by (decide 11 n) (decide 100 n)
+    where
+      n : ℕ
+      n = count section
+
+      counted : Counted 3 256 section
+      counted = section-accepted section (accepted-sound b good .section)
+
+      by : (11 ≤ n) ⊎ (n < 11) → (100 ≤ n) ⊎ (n < 100) → size ≤ 28923
+      by h (inl hundred) =
+          let most = counted .few in
+          omega (arith, few-digits 2 n (omega arith), listing-size 3 (all-bodies .2) (λ e l. few-digits 2 e (omega arith)))
+      by (inl eleven) (inr less) =
+          omega (arith, few-digits 1 n (omega arith), listing-size 2 (all-bodies .1) (λ e l. few-digits 1 e (omega arith)))
+      by (inr less) (inr h) =
+          let least = counted .enough in
+          omega (arith, few-digits 1 n (omega arith), listing-size 1 (all-bodies .0) (λ e l. few-digits 0 e (omega arith)))

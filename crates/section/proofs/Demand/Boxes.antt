@@ -20,7 +20,8 @@ use Rattle.profile.specs.declared.shapes.Witness.{Witness}
 use Rattle.section.proofs.Demand.Bounds.{add-atMost, finite-atMost}
 use Rattle.section.proofs.Demand.Clip.{edgeBox-atMost}
 use Rattle.section.proofs.Demand.Hits.{BoxAtMost, corners-atMost, edgeAt-atMost, HitAtMost, nearest-beside, nearest-hit}
-use Rattle.section.proofs.Demand.Hits.{none-yet, vertex-witness, vertexAt-atMost, VertexAtMost, VerticesAtMost, WitnessAtMost}
+use Rattle.section.proofs.Demand.Hits.{none-yet, vertex-witness, vertexAt-atMost, VertexAtMost, VerticesAtMost}
+use Rattle.section.proofs.Demand.Hits.{WitnessAtMost}
 use Rattle.section.proofs.Demand.Points.{point-best}
 
 middle-atMost : {a b : Vertex} → VertexAtMost 23 a → VertexAtMost 23 b → VertexAtMost 23 (middle a b)

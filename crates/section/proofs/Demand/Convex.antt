@@ -39,7 +39,8 @@ convexPoint-finite {c} C {p} P =
     (λ h. pick (Finite 27) (pointInConvex c p) (λ k. neg-finite D) (λ k. D))
 
 module _ {c s : List Float} (C : VerticesAtMost 23 c) (S : VerticesAtMost 23 s) where
-  convexRow-atMost : (i : ℕ) → i < count c → {b : CollisionHit} → BestAtMost 27 (count s) b → HitAtMost 27 (count s) (convexRow c s i b)
+  convexRow-atMost : (i : ℕ) → i < count c → {b : CollisionHit} → BestAtMost 27 (count s) b
+      → HitAtMost 27 (count s) (convexRow c s i b)
   unfolding convexRow
   convexRow-atMost i l {b} B =
       nearest-hit (λ j. segments (edgeAt s j) (vertexAt c i) (endAt c i)) b (count s) (S .some)
@@ -48,7 +49,8 @@ module _ {c s : List Float} (C : VerticesAtMost 23 c) (S : VerticesAtMost 23 s) 
   convexGap-atMost : HitAtMost 27 (count s) (convexGap c s)
   unfolding convexGap
   convexGap-atMost =
-      upto-makes (BestAtMost 27 (count s)) (HitAtMost 27 (count s)) (λ b B. found B) (convexRow c s) (hit ∞ (on 0 (vertexAt s 0))) (count c) (C .some)
+      upto-makes (BestAtMost 27 (count s)) (HitAtMost 27 (count s)) (λ b B. found B) (convexRow c s)
+      (hit ∞ (on 0 (vertexAt s 0))) (count c) (C .some)
       (none-yet refl (vertex-witness S tt 0 (S .some))) (λ i l b B. convexRow-atMost i l B)
 
   convexPenetration-atMost : {w : Witness} → WitnessAtMost (count s) w → HitAtMost 27 (count s) (convexPenetration c s w)
@@ -59,7 +61,8 @@ module _ {c s : List Float} (C : VerticesAtMost 23 c) (S : VerticesAtMost 23 s) 
       (nearest-beside (λ i. pointDistance s (vertexAt c i)) (hit 𝟘 w) (count c)
       (λ i l. point-best S (vertexAt-atMost C i l)) (record { distance = zero-finite 27; witness = W }))
     where
-      vertex-hit : (j : ℕ) → j < count s → HitAtMost 27 (count s) (hit (signedDistanceConvex c (vertexAt s j)) (on j (vertexAt s j)))
+      vertex-hit : (j : ℕ) → j < count s
+          → HitAtMost 27 (count s) (hit (signedDistanceConvex c (vertexAt s j)) (on j (vertexAt s j)))
       vertex-hit j l =
           record { distance = convexPoint-finite C (vertexAt-atMost S j l); witness = vertex-witness S tt j l }
 

@@ -34,7 +34,8 @@ pub record OffAxisAtMost (n : ℕ) (s : List Float) (h : CollisionHit) : Type 0 
   pub off : T (offAxis s) → HitAtMost n (count s) h
   pub on : T (not (offAxis s)) → h ≡ hit ∞ (on 0 (vertexAt s 0))
 
-pub offAxis-best : {n : ℕ} {s : List Float} {h : CollisionHit} → VerticesAtMost 23 s → OffAxisAtMost n s h → BestAtMost n (count s) h
+pub offAxis-best : {n : ℕ} {s : List Float} {h : CollisionHit} → VerticesAtMost 23 s → OffAxisAtMost n s h
+    → BestAtMost n (count s) h
 offAxis-best {n} {s} {h} S H = go (offAxis s) (H .off) (H .on)
   where
     go : (b : Bool) → (T b → HitAtMost n (count s) h) → (T (not b) → h ≡ hit ∞ (on 0 (vertexAt s 0))) → BestAtMost n (count s) h

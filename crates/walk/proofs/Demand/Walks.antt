@@ -51,7 +51,8 @@ module _ {s : List Float} (S : VerticesAtMost 23 s) {b : RadialBand} (B : InLimi
       let m = box-atMost S (boxOf-atMost B P) in
       record { best = better-atMost m (variation-finite B P) A; least = min-new L (m .distance) }
 
-  walk-atMost : (n : ℕ) (ps : List Piece) (w : Walk) → All Sound ps → WalkAtMost (count s) w → WalkAtMost (count s) (walk s b tol n ps w)
+  walk-atMost : (n : ℕ) (ps : List Piece) (w : Walk) → All Sound ps → WalkAtMost (count s) w
+      → WalkAtMost (count s) (walk s b tol n ps w)
   unfolding walk
   walk-atMost zero [] w A W = W
   walk-atMost zero (p ∷ ps) w A W = record { best = W .best; least = W .least }

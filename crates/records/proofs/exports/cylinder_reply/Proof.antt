@@ -16,7 +16,8 @@ cylinder-front-requires c κs = search needs
 
 cylinder-reply-of-requires : tie.Need-cylinder-reply-of-requires
 cylinder-reply-of-requires c κs =
-    owed-front told (λ s b. cylinderAnswer s b finest) (λ s h p. bounded-few (h .hit) (p .bounded)) (c .cylinder-front .ensures) tt
+    owed-front told (λ s b. cylinderAnswer s b finest) (λ s h p. bounded-few (h .hit) (p .bounded))
+    (c .cylinder-front .ensures) tt
 
 returns : tie.Need-returns
 returns c =

@@ -26,7 +26,8 @@ convex-distance-requires c κs = convex-long _ _ _ (axisTests _) tt (sym (c .bef
 returns-2 : tie.Need-returns-2
 unfolding convexAnswer
 returns-2 c =
-    answered (Bounded _) (convex-demand _ _) (rw (← c .before .before .convex-refusal .ensures, c .before .if1 .left, c .convex-distance .ensures))
+    answered (Bounded _) (convex-demand _ _)
+    (rw (← c .before .before .convex-refusal .ensures, c .before .if1 .left, c .convex-distance .ensures))
 
 pub convex-polygon-distance-spec : {M : Type 1} → statement M
 convex-polygon-distance-spec =
