@@ -1,3 +1,4 @@
 -- Laws that the functions' proofs use.
 pub mod Asked
+pub mod Edges
 pub mod Outside
