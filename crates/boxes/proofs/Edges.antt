@@ -33,7 +33,7 @@ unfolding edgeBox segments
 own x e =
     pick Own (clip x (e .a) (e .b) .any) (λ h. refl)
     (λ h. upto-keeps Own (λ k best. nearer best (side k)) (hit ∞ (on (e .number) (e .a))) 4 refl
-      (λ k l b B. pick Own (side k .distance ≺ b .distance) {x = side k} {y = b} (λ h. refl) (λ h. B)))
+    (λ k l b B. pick Own (side k .distance ≺ b .distance) {x = side k} {y = b} (λ h. refl) (λ h. B)))
   where
     Own : CollisionHit → Type 0
     Own h = h .witness .edge ≡ e .number
@@ -96,7 +96,7 @@ module _ (s : List Float) (x : Aabb) where
   unfolding boxDistance boxPenetration boxWitness
   box-witness =
       elim (last-of (boxPenetration s x (boxGap s x .witness) .witness) (count s)) [
-      | kept e none ↦
-          of-deep refl e (source every (λ i. pointDistance s (probe x i)) (hit 𝟘 (boxGap s x .witness)) 5) none
-      | inside k l i e none ↦ of-vertex k l i e none
+        | kept e none ↦
+            of-deep refl e (source every (λ i. pointDistance s (probe x i)) (hit 𝟘 (boxGap s x .witness)) 5) none
+        | inside k l i e none ↦ of-vertex k l i e none
       ]

@@ -1,3 +1,4 @@
 -- Laws that the functions' proofs use.
 pub mod Flags
 pub mod Outside
+pub mod Edges

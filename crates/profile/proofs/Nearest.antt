@@ -63,7 +63,7 @@ refute false h = tt
 
 -- x is not nearer than b, and y is
 module _ (x y b : CollisionHit) (X : Held x) (Y : Held y) (B : NumberHit b)
-         (p : T (not (x .distance ≺ b .distance))) (q : T (y .distance ≺ b .distance)) where
+    (p : T (not (x .distance ≺ b .distance))) (q : T (y .distance ≺ b .distance)) where
   y-number : NumberHit y
   y-number = below-number binary64 (y .distance) (b .distance) Y (T→true _ q)
 
@@ -74,20 +74,20 @@ module _ (x y b : CollisionHit) (X : Held x) (Y : Held y) (B : NumberHit b)
   not-nearer : T (not (x .distance ≺ y .distance))
   not-nearer =
       refute (x .distance ≺ y .distance) (λ h.
-        let N : NumberHit x = below-number binary64 (x .distance) (y .distance) X (T→true _ h) in
-        omega (arith, apart-keys N, lt→key binary64 (x .distance) (y .distance) N y-number h))
+      let N : NumberHit x = below-number binary64 (x .distance) (y .distance) X (T→true _ h) in
+      omega (arith, apart-keys N, lt→key binary64 (x .distance) (y .distance) N y-number h))
 
   not-as-near : T (not (x .distance ≼ y .distance))
   not-as-near =
       refute (x .distance ≼ y .distance) (λ h.
-        let N : NumberHit x = held-number binary64 (x .distance) X (le-left (x .distance) (y .distance) (T→true _ h)) in
-        omega (arith, apart-keys N, le→key binary64 (x .distance) (y .distance) N y-number h))
+      let N : NumberHit x = held-number binary64 (x .distance) X (le-left (x .distance) (y .distance) (T→true _ h)) in
+      omega (arith, apart-keys N, le→key binary64 (x .distance) (y .distance) N y-number h))
 
 not-itself : (x : CollisionHit) → Held x → T (not (x .distance ≺ x .distance))
 not-itself x X =
     refute (x .distance ≺ x .distance) (λ h.
-      let N : NumberHit x = below-number binary64 (x .distance) (x .distance) X (T→true _ h) in
-      omega (arith, lt→key binary64 (x .distance) (x .distance) N N h))
+    let N : NumberHit x = below-number binary64 (x .distance) (x .distance) X (T→true _ h) in
+    omega (arith, lt→key binary64 (x .distance) (x .distance) N N h))
 
 module _ (counts : ℕ → Bool) (f : ℕ → CollisionHit) (a : CollisionHit) (A : NumberHit a) (F : (k : ℕ) → Held (f k)) where
   first-number : (n : ℕ) → NumberHit (nearestCounted counts f a n)
@@ -103,7 +103,7 @@ module _ (counts : ℕ → Bool) (f : ℕ → CollisionHit) (a : CollisionHit) (
       let best = nearestCounted counts f a n in
       pick (λ (h : CollisionHit). T (not (f j .distance ≺ h .distance))) (counts n)
       (λ c. pick (λ (h : CollisionHit). T (not (f j .distance ≺ h .distance))) (f n .distance ≺ best .distance)
-        (λ h. not-nearer (f j) (f n) best (F j) (F n) (first-number n) p h) (λ h. p))
+      (λ h. not-nearer (f j) (f n) best (F j) (F n) (first-number n) p h) (λ h. p))
       (λ c. p)
 
   that-one : (n : ℕ) → T (counts n) → T (not (f n .distance ≺ nearestCounted counts f a (suc n) .distance))
@@ -112,7 +112,7 @@ module _ (counts : ℕ → Bool) (f : ℕ → CollisionHit) (a : CollisionHit) (
       let best = nearestCounted counts f a n in
       subst (λ (t : Bool). T (not (f n .distance ≺ cond t (nearer best (f n)) best .distance))) (sym (T→true (counts n) c))
       (pick (λ (h : CollisionHit). T (not (f n .distance ≺ h .distance))) (f n .distance ≺ best .distance)
-        (λ h. not-itself (f n) (F n)) (λ h. h))
+      (λ h. not-itself (f n) (F n)) (λ h. h))
 
   none-nearer : (n j : ℕ) → j < n → T (counts j) → T (not (f j .distance ≺ nearestCounted counts f a n .distance))
   none-nearer zero j l c = let e : ⊥ = omega arith in absurd e
@@ -134,9 +134,9 @@ module _ (counts : ℕ → Bool) (f : ℕ → CollisionHit) (a : CollisionHit) (
           equal = e;
           number = o;
           nearest = λ j m d.
-            subst (λ (g : CollisionHit). T (not (f j .distance ≺ g .distance))) (sym i ∙ e) (none-nearer n j m d);
+              subst (λ (g : CollisionHit). T (not (f j .distance ≺ g .distance))) (sym i ∙ e) (none-nearer n j m d);
           first = λ j m d.
-            not-as-near (f j) (f k) (nearestCounted counts f a k) (F j) (F k) (first-number k) (none-nearer k j m d) w;
+              not-as-near (f j) (f k) (nearestCounted counts f a k) (F j) (F k) (first-number k) (none-nearer k j m d) w;
         }))
 
     pub supplied : Supplied counts f a n (nearestCounted counts f a n)
