@@ -1,12 +1,12 @@
--- Which edge supplies the witness of a box: the gap's, a probe's, or the one that starts at a vertex more than 1e-9 inside. By the laws
--- of the first smallest, and for the vertices by induction over them.
+-- Which edge supplies the witness of a box: the gap's, a probe's, or the one that starts at a vertex more than 1e-9 inside. By the
+-- laws of the first smallest, and for the vertices by induction over them.
 use Prim.Native.Nat.{ℕ, zero, suc, _≤_, _<_}
 use native.Mathlib.Nat.{eq-or-lt-of-le, le-refl}
 use native.Mathlib.Omega.{arith}
-use mathlib.Core.Bool.{Bool, true, not, cond}
+use mathlib.Core.Bool.{not, cond}
 use mathlib.Core.List.{List}
 use mathlib.Core.Logic.{inl, inr}
-use mathlib.Core.Path.{_≡_, ap, refl, subst, sym, _∙_}
+use mathlib.Core.Path.{_≡_, ap, refl, subst, _∙_}
 use lib.Dec.{T}
 use lib.Ieee.{Float}
 use Rattle.arith.specs.F64.{_≺_, 𝟘, ∞}
@@ -15,7 +15,7 @@ use Rattle.profile.specs.declared.shapes.Aabb.{Aabb}
 use Rattle.profile.specs.declared.shapes.CollisionHit.{CollisionHit}
 use Rattle.profile.specs.declared.shapes.Edge.{Edge}
 use Rattle.profile.specs.declared.shapes.Witness.{Witness}
-use Rattle.profile.proofs.Nearest.{Source, source, start, Supplied, supplied, taken}
+use Rattle.profile.proofs.Nearest.{every, Source, source, start, Supplied, supplied, taken}
 use Rattle.profile.proofs.Numbers.{infinite}
 use Rattle.profile.proofs.Steps.{pick, upto-keeps}
 use Rattle.segments.specs.Clip.{clip}
@@ -25,9 +25,6 @@ use Rattle.boxes.specs.Boxes.{boxDistance, boxGap, boxPenetration, boxWi
 use Rattle.boxes.proofs.Held.{edge-held}
 
 -- ---- the gap: every edge counts
-abbrev every : ℕ → Bool
-every k = true
-
 own : (x : Aabb) (e : Edge) → edgeBox x e .witness .edge ≡ e .number
 unfolding edgeBox segments
 own x e =
@@ -53,8 +50,8 @@ gap-edge s x =
 abbrev pub NoneInside : List Float → Aabb → ℕ → ℕ → Type 0
 NoneInside s x k n = (j : ℕ) → k ≤ j → j < n → T (not (strictlyInsideAabb x (vertexAt s j)))
 
--- Where the witness w of the section s and the box x comes from: the gap, probe i, or vertex k, the last well inside, with the edge
--- that starts there.
+-- Where the witness w of the section s and the box x comes from: the gap, probe i, or vertex k, the last well inside, with the
+-- edge that starts there.
 pub data BoxWitness (s : List Float) (x : Aabb) (w : Witness) : Type 0 where
   of-gap : w ≡ boxGap s x .witness → NoneInside s x 0 (count s) → BoxWitness s x w
   of-probe : (i : ℕ) → i < 5 → w ≡ pointDistance s (probe x i) .witness → NoneInside s x 0 (count s) → BoxWitness s x w

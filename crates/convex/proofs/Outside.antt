@@ -1,5 +1,5 @@
--- A point outside a convex body has no distance below 0, so that it lowers nothing that is at most 0; and what is lowered stays at most
--- 0. By the signs alone.
+-- A point outside a convex body has no distance below 0, so that it lowers nothing that is at most 0; and what is lowered stays
+-- at most 0. By the signs alone.
 use Prim.Native.Nat.{ℕ, zero, suc, _+_, _*_}
 use native.Mathlib.Nat.{zero-mul}
 use native.Mathlib.Omega.{arith}

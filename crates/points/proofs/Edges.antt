@@ -1,5 +1,5 @@
--- Which edge supplies the witness of a point and of a sphere: of the edges that count the first of the nearest, and the witness is the
--- point that 01 computes on it. By the law of the first smallest.
+-- Which edge supplies the witness of a point and of a sphere: of the edges that count the first of the nearest, and the witness is
+-- the point that 01 computes on it. By the law of the first smallest.
 use Prim.Native.Nat.{ℕ, _<_}
 use mathlib.Core.Bool.{Bool, not, cond}
 use mathlib.Core.List.{List}
@@ -46,7 +46,8 @@ pub surface-edge : (s : List Float) (p : Vertex)
     → Supplied (counts s) (closestOn s p) (hit ∞ (on 0 (vertexAt s 0))) (count s) (surfaceNear s p)
 unfolding surfaceNear surfaceStep
 surface-edge s p =
-    supplied (counts s) (closestOn s p) (hit ∞ (on 0 (vertexAt s 0))) infinite (λ k. closest-held p (edgeAt s k)) (own s p) (count s)
+    supplied (counts s) (closestOn s p) (hit ∞ (on 0 (vertexAt s 0))) infinite
+    (λ k. closest-held p (edgeAt s k)) (own s p) (count s)
 
 module _ (s : List Float) (p : Vertex) (g : Float → Float) where
   abbrev of : CollisionHit → CollisionHit

@@ -1,5 +1,5 @@
--- Which of several hits the first smallest is: the start, or one that was strictly nearer than the first smallest before it. So, of
--- distances that f64 holds, none is nearer, and none before it is as near. By induction over the fold; a NaN is never taken.
+-- Which of several hits the first smallest is: the start, or one that was strictly nearer than the first smallest before it. So,
+-- of distances that f64 holds, none is nearer, and none before it is as near. By induction over the fold; a NaN is never taken.
 use Prim.Native.Nat.{ℕ, zero, suc, _<_}
 use native.Mathlib.Nat.{eq-or-lt-of-le, le-refl}
 use native.Mathlib.Omega.{arith}
@@ -21,14 +21,17 @@ use Rattle.profile.proofs.Steps.{pick, upto-keeps}
 abbrev pub nearestCounted : (ℕ → Bool) → (ℕ → CollisionHit) → CollisionHit → ℕ → CollisionHit
 nearestCounted counts f a n = upto (λ k best. cond (counts k) (nearer best (f k)) best) a n
 
+abbrev pub every : ℕ → Bool
+every k = true
+
 -- Where the hit h among them comes from.
 pub data Source (counts : ℕ → Bool) (f : ℕ → CollisionHit) (a : CollisionHit) (n : ℕ) (h : CollisionHit) : Type 0 where
   start : h ≡ a → Source counts f a n h
   taken : (k : ℕ) → k < n → T (counts k) → h ≡ f k → T (f k .distance ≺ nearestCounted counts f a k .distance)
       → Source counts f a n h
 
--- Edge k supplies the hit h: it is one of n and counts, h is what f gives of it, with its number; no edge that counts is nearer, and
--- none before it is as near.
+-- Edge k supplies the hit h: it is one of n and counts, h is what f gives of it, with its number; no edge that counts is nearer,
+-- and none before it is as near.
 pub record Supplies (counts : ℕ → Bool) (f : ℕ → CollisionHit) (n : ℕ) (h : CollisionHit) (k : ℕ) : Type 0 where
   pub below : k < n
   pub counted : T (counts k)
@@ -54,7 +57,8 @@ module _ (counts : ℕ → Bool) (f : ℕ → CollisionHit) (a : CollisionHit) w
       let best = nearestCounted counts f a n in
       let old = later n (source n) in
       pick (Source counts f a (suc n)) (counts n)
-      (λ c. pick (Source counts f a (suc n)) (f n .distance ≺ best .distance) (λ h. taken n (le-refl (suc n)) c refl h) (λ h. old))
+      (λ c. pick (Source counts f a (suc n)) (f n .distance ≺ best .distance)
+      (λ h. taken n (le-refl (suc n)) c refl h) (λ h. old))
       (λ c. old)
 
 refute : (t : Bool) → (T t → ⊥) → T (not t)
@@ -90,20 +94,20 @@ not-itself x X =
     omega (arith, lt→key binary64 (x .distance) (x .distance) N N h))
 
 module _ (counts : ℕ → Bool) (f : ℕ → CollisionHit) (a : CollisionHit) (A : NumberHit a) (F : (k : ℕ) → Held (f k)) where
-  first-number : (n : ℕ) → NumberHit (nearestCounted counts f a n)
+  pub first-number : (n : ℕ) → NumberHit (nearestCounted counts f a n)
   first-number n =
       upto-keeps NumberHit (λ k best. cond (counts k) (nearer best (f k)) best) a n A
       (λ k l b B. pick NumberHit (counts k) (λ c. nearer-number b (f k) B (F k)) (λ c. B))
 
-  -- not nearer than the first smallest so far, and so not than that with one more; nor is that one
-  one-more : (j n : ℕ) → T (not (f j .distance ≺ nearestCounted counts f a n .distance))
-      → T (not (f j .distance ≺ nearestCounted counts f a (suc n) .distance))
+  -- what is not nearer than the first smallest so far is not nearer than that with one more; nor is that one
+  one-more : (x : CollisionHit) → Held x → (n : ℕ) → T (not (x .distance ≺ nearestCounted counts f a n .distance))
+      → T (not (x .distance ≺ nearestCounted counts f a (suc n) .distance))
   unfolding upto
-  one-more j n p =
+  one-more x X n p =
       let best = nearestCounted counts f a n in
-      pick (λ (h : CollisionHit). T (not (f j .distance ≺ h .distance))) (counts n)
-      (λ c. pick (λ (h : CollisionHit). T (not (f j .distance ≺ h .distance))) (f n .distance ≺ best .distance)
-      (λ h. not-nearer (f j) (f n) best (F j) (F n) (first-number n) p h) (λ h. p))
+      pick (λ (h : CollisionHit). T (not (x .distance ≺ h .distance))) (counts n)
+      (λ c. pick (λ (h : CollisionHit). T (not (x .distance ≺ h .distance))) (f n .distance ≺ best .distance)
+      (λ h. not-nearer x (f n) best X (F n) (first-number n) p h) (λ h. p))
       (λ c. p)
 
   that-one : (n : ℕ) → T (counts n) → T (not (f n .distance ≺ nearestCounted counts f a (suc n) .distance))
@@ -114,13 +118,24 @@ module _ (counts : ℕ → Bool) (f : ℕ → CollisionHit) (a : CollisionHit) (
       (pick (λ (h : CollisionHit). T (not (f n .distance ≺ h .distance))) (f n .distance ≺ best .distance)
       (λ h. not-itself (f n) (F n)) (λ h. h))
 
-  none-nearer : (n j : ℕ) → j < n → T (counts j) → T (not (f j .distance ≺ nearestCounted counts f a n .distance))
+  pub none-nearer : (n j : ℕ) → j < n → T (counts j) → T (not (f j .distance ≺ nearestCounted counts f a n .distance))
   none-nearer zero j l c = let e : ⊥ = omega arith in absurd e
   none-nearer (suc n) j l c = elim (eq-or-lt-of-le l) [
     | inl e ↦
         subst (λ (m : ℕ). T (not (f j .distance ≺ nearestCounted counts f a m .distance))) e (that-one j c)
-    | inr m ↦ one-more j n (none-nearer n j (omega arith) c)
+    | inr m ↦ one-more (f j) (F j) n (none-nearer n j (omega arith) c)
   ]
+
+  -- what is not nearer than the start is not nearer than the first smallest, and not as near as one that is taken
+  pub start-not-nearer : (x : CollisionHit) → Held x → T (not (x .distance ≺ a .distance)) → (n : ℕ)
+      → T (not (x .distance ≺ nearestCounted counts f a n .distance))
+  unfolding upto
+  start-not-nearer x X p zero = p
+  start-not-nearer x X p (suc n) = one-more x X n (start-not-nearer x X p n)
+
+  pub taken-not-as-near : (x : CollisionHit) → Held x → (k : ℕ) → T (not (x .distance ≺ nearestCounted counts f a k .distance))
+      → T (f k .distance ≺ nearestCounted counts f a k .distance) → T (not (x .distance ≼ f k .distance))
+  taken-not-as-near x X k p won = not-as-near x (f k) (nearestCounted counts f a k) X (F k) (first-number k) p won
 
   module _ (own : (k : ℕ) → f k .witness .edge ≡ k) (n : ℕ) where
     supplies : {h : CollisionHit} → h ≡ nearestCounted counts f a n → Source counts f a n h → Supplied counts f a n h
@@ -135,8 +150,7 @@ module _ (counts : ℕ → Bool) (f : ℕ → CollisionHit) (a : CollisionHit) (
           number = o;
           nearest = λ j m d.
               subst (λ (g : CollisionHit). T (not (f j .distance ≺ g .distance))) (sym i ∙ e) (none-nearer n j m d);
-          first = λ j m d.
-              not-as-near (f j) (f k) (nearestCounted counts f a k) (F j) (F k) (first-number k) (none-nearer k j m d) w;
+          first = λ j m d. taken-not-as-near (f j) (F j) k (none-nearer k j m d) w;
         }))
 
     pub supplied : Supplied counts f a n (nearestCounted counts f a n)

@@ -11,7 +11,7 @@ use Rattle.profile.specs.Vertices.{on, hit, count, vertexAt, endAt, edgeAt}
 use Rattle.profile.specs.declared.shapes.Aabb.{Aabb}
 use Rattle.profile.specs.declared.shapes.Vertex.{Vertex}
 use Rattle.profile.specs.declared.shapes.Witness.{Witness}
-use Rattle.profile.proofs.Numbers.{Held, NumberHit, infinite, nearer-number, nearest-number}
+use Rattle.profile.proofs.Numbers.{NumberHit, infinite, nearer-number, nearest-number}
 use Rattle.profile.proofs.Steps.{pick, upto-keeps}
 use Rattle.segments.specs.Segments.{closest}
 use Rattle.segments.proofs.Held.{closest-held}
