@@ -1,6 +1,5 @@
 -- No distance of a section is a NaN, whatever its numbers: the search starts with an infinity or 0, and a NaN is never
 -- strictly smaller.
-use Prim.Native.Nat.{ℕ}
 use mathlib.Core.List.{List}
 use lib.Ieee.{Float, binary64, fits, isNan, neg, ofBits}
 use Rattle.arith.specs.F64.{_≺_, _≼_, 𝟘, ∞, e-9, e-12}
@@ -8,20 +7,18 @@ use Rattle.arith.specs.Num.{isFinite}
 use Rattle.arith.proofs.Laws.Extended.{neg-number}
 use Rattle.arith.proofs.Laws.OrderHeld.{number-held}
 use Rattle.arith.proofs.Laws.Sizes.{Number, cond-keeps, zero-number}
-use Rattle.profile.specs.Vertices.{on, hit, nearestOf, count, vertexAt, endAt, edgeAt}
+use Rattle.profile.specs.Vertices.{on, hit, count, vertexAt, endAt, edgeAt}
 use Rattle.profile.specs.declared.shapes.Aabb.{Aabb}
-use Rattle.profile.specs.declared.shapes.CollisionHit.{CollisionHit}
-use Rattle.profile.specs.declared.shapes.Edge.{Edge}
 use Rattle.profile.specs.declared.shapes.Vertex.{Vertex}
 use Rattle.profile.specs.declared.shapes.Witness.{Witness}
-use Rattle.profile.proofs.Numbers.{Held, NumberHit, infinite, nearer-number, nearest-number}
+use Rattle.profile.proofs.Numbers.{NumberHit, infinite, nearer-number, nearest-number}
 use Rattle.profile.proofs.Steps.{pick, upto-keeps}
-use Rattle.segments.specs.Segments.{closest, segments}
-use Rattle.segments.specs.Clip.{clip}
-use Rattle.segments.proofs.Held.{closest-held, segments-held}
+use Rattle.segments.specs.Segments.{closest}
+use Rattle.segments.proofs.Held.{closest-held}
 use Rattle.points.specs.Overlap.{resultOf}
 use Rattle.points.specs.Points.{edgeIsSurface, surfaceStep, surfaceNear, inSection, pointDistance}
-use Rattle.boxes.specs.Boxes.{corners, edgeBox, probe, boxGap, boxPenetration, boxHolds, boxDistance}
+use Rattle.boxes.specs.Boxes.{edgeBox, probe, boxGap, boxPenetration, boxHolds, boxDistance}
+use Rattle.boxes.proofs.Held.{edge-held}
 
 -- ---- points
 surface-number : (s : List Float) (p : Vertex) → NumberHit (surfaceNear s p)
@@ -40,19 +37,6 @@ point-number s p =
     (cond-keeps Number (d ≼ e-12) zero-number (cond-keeps Number (inSection s p) (neg-number binary64 d h) h)) infinite
 
 -- ---- boxes
-edge-held : (x : Aabb) (e : Edge) → Held (edgeBox x e)
-unfolding edgeBox
-edge-held x e =
-    pick Held (clip x (e .a) (e .b) .any) (λ h. number-held binary64 𝟘 zero-number)
-    (λ h. number-held binary64 (nearestOf side none 4 .distance)
-    (nearest-number side none 4 infinite (λ k. segments-held e (vertexAt (corners x) k) (endAt (corners x) k))))
-  where
-    side : ℕ → CollisionHit
-    side k = segments e (vertexAt (corners x) k) (endAt (corners x) k)
-
-    none : CollisionHit
-    none = hit ∞ (on (e .number) (e .a))
-
 gap-number : (s : List Float) (x : Aabb) → NumberHit (boxGap s x)
 unfolding boxGap
 gap-number s x =
