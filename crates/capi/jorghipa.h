@@ -9,7 +9,7 @@
  *
  * Each call returns 0, or the number of the first test that applies, and then changes nothing that it was lent. The tests,
  * in their order; each call makes those that it names, each over all lists and numbers that it is given:
- *    1  odd count of numbers                  6  section radius below -1e-9 (builder)
+ *    1  odd count of numbers                  6  section or polygon radius below -1e-9
  *    2  fewer than 3 vertices (2 points)      7  space too small (builder)
  *    3  over 256 vertices (254 points)        8  under 3 vertices kept (builder)
  *    4  a number is NaN or infinite           9  body radius below 0
@@ -38,19 +38,19 @@ double jorghipa_sqrt(double x);
 /* The f64 nearest the root of a^2 + b^2, ties to even; IEEE 754's hypot for every a and b. */
 double jorghipa_hypot(double a, double b);
 
-/* Distance of the point (x, y, z) from the section; z is the spindle's axis. Numbers 1 to 5. */
+/* Distance of the point (x, y, z) from the section; z is the spindle's axis. Numbers 1 to 6. */
 uint32_t jorghipa_point(const double *section, size_t section_count, double x, double y, double z,
                         double *distance, double *witness_z, double *witness_radius);
 
-/* Distance of a sphere about (x, y, z). Numbers 1 to 5, 9. */
+/* Distance of a sphere about (x, y, z). Numbers 1 to 6, 9. */
 uint32_t jorghipa_sphere(const double *section, size_t section_count, double x, double y, double z, double radius,
                          double *distance, double *witness_z, double *witness_radius);
 
-/* Distance of the box z0..z1, r0..r1 in (z, radius). Numbers 1 to 5, 10. */
+/* Distance of the box z0..z1, r0..r1 in (z, radius). Numbers 1 to 6, 10. */
 uint32_t jorghipa_box(const double *section, size_t section_count, double z0, double z1, double r0, double r1,
                       double *distance, double *witness_z, double *witness_radius);
 
-/* Distance of a convex polygon in (z, radius). Numbers 1 to 5, over both lists. */
+/* Distance of a convex polygon in (z, radius), which may lie below the axis. Numbers 1 to 5, over both lists, and 6. */
 uint32_t jorghipa_convex(const double *convex, size_t convex_count, const double *section, size_t section_count,
                          double *distance, double *witness_z, double *witness_radius);
 
@@ -61,7 +61,7 @@ uint32_t jorghipa_build_section(const double *points, size_t points_count, doubl
                                 size_t *kept);
 
 /* Builds a section from a closed polygon of 3 to 256 vertices: drops repeated points and a repeated closing vertex;
- * takes negative radii. space needs room for 2 n numbers. Numbers 1 to 5, 7, 8. */
+ * raises a radius in [-1e-9, 0) to 0. space needs room for 2 n numbers. Numbers 1 to 8. */
 uint32_t jorghipa_build_polygon(const double *points, size_t points_count, double *space, size_t space_count,
                                 size_t *kept);
 
@@ -72,7 +72,7 @@ uint32_t jorghipa_build_polygon(const double *points, size_t points_count, doubl
 
 /* Distance of the flat-capped cylinder from a to b, along the spindle (z) or across it (x or y). *boxes counts the boxes
  * that were measured, *waiting the most pieces that waited at any one time; *cut is 1 where the walk stopped at `most`
- * boxes with a piece still due, and then the distance is the least of the boxes'. Numbers 1 to 5, 18, 9, 11.
+ * boxes with a piece still due, and then the distance is the least of the boxes'. Numbers 1 to 5, 18, 6, 9, 11.
  *
  * The settings of the walk across the spindle. It samples the cylinder at intervals + 1 values of z, then measures boxes
  * around pieces of it, and halves a piece whose box is wider, and varies more in radius, than the tolerance.

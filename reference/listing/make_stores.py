@@ -3,12 +3,15 @@
        make_stores.py DIR --gate PROGRAM    all of them as DIR/stdin, each behind its length in bytes (u32, little-endian),
                                             and what PROGRAM writes for each, one after the other, as DIR/stdout
 Writes stores to list: the example of document 01, others, and damaged ones."""
+import math
 import struct
 import subprocess
 import sys
 
 S = [(0, 10), (20, 10), (20, 0), (0, 0)]
 NAN = float("nan")
+# the neighbours of -1e-9
+BELOW, ABOVE = math.nextafter(-1e-9, -1), math.nextafter(-1e-9, 0)
 
 
 def u32(x):
@@ -98,6 +101,25 @@ STORES = {
     "largest": in_order(vertices(S[:3]) + [sphere(k / 8, 100, 1, 5) for k in range(508)]),
     # longer than one read of 4,096 bytes, and the chain begins behind it
     "two_reads": backwards(in_order(vertices(S) + [sphere(k / 8, 100, 1, 5) for k in range(100)])),
+    # a radius below -1e-9: behind a body, in the second of two records in file order, in an unreached record
+    "radius_below": in_order(vertices(S[:2]) + [sphere(0, 0, 30, 4), (1, (20, -1))] + vertices(S[3:])),
+    "radius_below_twice": backwards(in_order(vertices([S[0], (20, -10), (20, -1), S[3]]) + [box(25, 30, 0, 5)])),
+    "radius_below_unreached": EXAMPLE + record(0, 1, 20, -1),
+    "radius_at_threshold": in_order(vertices(S[:2] + [(20, -1e-9), (0, -1e-9)]) + BODIES),
+    "radius_above_threshold": in_order(vertices(S[:2] + [(20, ABOVE), (0, -5e-324)]) + BODIES),
+    "radius_below_threshold": in_order(vertices(S[:2] + [(20, -1e-9), (0, BELOW)]) + BODIES),
+    "radius_below_of_the_last": in_order(vertices(S[:3]) + BODIES + [(1, (0, BELOW))]),
+    # 4 and 5 of a later vertex come first; a body's own numbers do not
+    "radius_below_and_nan": in_order(vertices([S[0], (20, -1), (NAN, 0)])),
+    "radius_below_and_past_limit": in_order(vertices([S[0], (20, -1), (1048577, 0)])),
+    "radius_past_limit_below": in_order(vertices([S[0], (20, -1), (20, -1048577)])),
+    "radius_below_of_two": in_order(vertices([S[0], (20, -1)])),
+    "radius_below_of_257": in_order(vertices([(k, -1) for k in range(257)])),
+    "radius_below_and_bodies": in_order([sphere(NAN, 0, 0, -1), box(5, 4, -1, -2)] + vertices([S[0], S[1], (20, -1)])),
+    "radius_below_and_kind": patched(in_order(vertices([S[0], (20, -1), S[2], S[3]])), 4 * 40 + 4, u32(7)),
+    "mirrored": in_order(vertices([(z, -r) for z, r in S]) + [box(25, 30, 0, 5)]),
+    # only vertices are met: a box and the ignored numbers may lie below the axis
+    "box_below": in_order([(1, (z, r, -5, -5)) for z, r in S] + [box(5, 6, -3, -2), sphere(-3, -4, 30, 0)]),
     "bytes_1": bytes(1),
     "bytes_20481": bytes(20481),
     "bytes_20521": bytes(20521),

@@ -14,13 +14,13 @@ fn front<'a>(build: Build, points: &[f64], space: &'a mut [f64]) -> Result<&'a [
 }
 
 /// Builds a section of 2 to 254 points, closed to the spindle, in the front of `space`, which needs 2(n + 2) numbers.
-/// Returns that front. Refusals 1 to 8.
+/// Radii from -1e-9 up to 0 become 0. Returns that front. Refusals 1 to 8.
 pub fn build_section<'a>(points: &[f64], space: &'a mut [f64]) -> Result<&'a [f64], Refusal> {
     front(raw::jorghipa_build_section, points, space)
 }
 
 /// Builds a section from a closed polygon in the front of `space`, which needs 2n numbers.
-/// Returns that front. Refusals 1 to 5, 7 and 8.
+/// Radii from -1e-9 up to 0 become 0. Returns that front. Refusals 1 to 8.
 pub fn build_polygon<'a>(points: &[f64], space: &'a mut [f64]) -> Result<&'a [f64], Refusal> {
     front(raw::jorghipa_build_polygon, points, space)
 }

@@ -49,7 +49,7 @@ pub struct CylinderHit {
     pub cut: bool,
 }
 
-/// Distance of a cylinder. Refusals 1 to 5, 18, 9 and 11, tested in this order.
+/// Distance of a cylinder. Refusals 1 to 5, 18, 6, 9 and 11, tested in this order.
 ///
 /// ```
 /// use jorghipa::{Cylinder, Point, Settings, cylinder};

@@ -51,26 +51,26 @@ pub(crate) fn hit(call: impl FnOnce(&mut f64, &mut f64, &mut f64) -> u32) -> Res
     Ok(hit)
 }
 
-/// Distance of a point. Refusals 1 to 5.
+/// Distance of a point. Refusals 1 to 6.
 pub fn point(section: &[f64], point: Point) -> Result<Hit, Refusal> {
     let Point { x, y, z } = point;
     // SAFETY (here and below): the slices are valid for their lengths, and the places are distinct.
     hit(|d, wz, wr| unsafe { raw::jorghipa_point(section.as_ptr(), section.len(), x, y, z, d, wz, wr) })
 }
 
-/// Distance of a sphere. Refusals 1 to 5 and 9.
+/// Distance of a sphere. Refusals 1 to 6 and 9.
 pub fn sphere(section: &[f64], sphere: Sphere) -> Result<Hit, Refusal> {
     let Point { x, y, z } = sphere.center;
     hit(|d, wz, wr| unsafe { raw::jorghipa_sphere(section.as_ptr(), section.len(), x, y, z, sphere.radius, d, wz, wr) })
 }
 
-/// Distance of a box. Refusals 1 to 5 and 10.
+/// Distance of a box. Refusals 1 to 6 and 10.
 pub fn aabb(section: &[f64], bounds: Aabb) -> Result<Hit, Refusal> {
     let Aabb { z0, z1, r0, r1 } = bounds;
     hit(|d, wz, wr| unsafe { raw::jorghipa_box(section.as_ptr(), section.len(), z0, z1, r0, r1, d, wz, wr) })
 }
 
-/// Distance of a convex polygon, given like a section. Refusals 1 to 5, over both lists.
+/// Distance of a convex polygon, given like a section. Refusals 1 to 5, over both lists, and 6 of the section.
 pub fn convex(convex: &[f64], section: &[f64]) -> Result<Hit, Refusal> {
     hit(|d, wz, wr| unsafe {
         raw::jorghipa_convex(convex.as_ptr(), convex.len(), section.as_ptr(), section.len(), d, wz, wr)

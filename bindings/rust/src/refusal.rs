@@ -23,7 +23,7 @@ impl Refusal {
             3 => "over 256 vertices, or 254 section points",
             4 => "a number is NaN or infinite",
             5 => "a magnitude over 1,048,576",
-            6 => "section radius below -1e-9",
+            6 => "section or polygon radius below -1e-9",
             7 => "builder space too small",
             8 => "under 3 vertices kept",
             9 => "body radius below 0",

@@ -9,7 +9,7 @@ fn verdict(call: impl FnOnce(&mut u32) -> u32) -> Result<bool, Refusal> {
     Ok(collision != 0)
 }
 
-/// Whether a sphere comes closer than the clearance. Refusals 1 to 5 and 9.
+/// Whether a sphere comes closer than the clearance. Refusals 1 to 6 and 9.
 pub fn verdict_sphere(section: &[f64], sphere: Sphere, clearance: f64) -> Result<bool, Refusal> {
     let Point { x, y, z } = sphere.center;
     // SAFETY (here and below): the slices are valid for their lengths.
@@ -18,7 +18,7 @@ pub fn verdict_sphere(section: &[f64], sphere: Sphere, clearance: f64) -> Result
     })
 }
 
-/// Whether a box comes closer than the clearance. Refusals 1 to 5 and 10.
+/// Whether a box comes closer than the clearance. Refusals 1 to 6 and 10.
 pub fn verdict_box(section: &[f64], bounds: Aabb, clearance: f64) -> Result<bool, Refusal> {
     let Aabb { z0, z1, r0, r1 } = bounds;
     verdict(|collision| unsafe {
@@ -26,7 +26,7 @@ pub fn verdict_box(section: &[f64], bounds: Aabb, clearance: f64) -> Result<bool
     })
 }
 
-/// Whether a cylinder comes closer than the clearance. Refusals 1 to 5, 9 and 11.
+/// Whether a cylinder comes closer than the clearance. Refusals 1 to 6, 9 and 11.
 pub fn verdict_cylinder(section: &[f64], cylinder: Cylinder, clearance: f64) -> Result<bool, Refusal> {
     let Cylinder { a, b, radius } = cylinder;
     let (list, count) = (section.as_ptr(), section.len());
@@ -35,7 +35,7 @@ pub fn verdict_cylinder(section: &[f64], cylinder: Cylinder, clearance: f64) -> 
     })
 }
 
-/// Whether a convex polygon comes closer than the clearance. Refusals 1 to 5.
+/// Whether a convex polygon comes closer than the clearance. Refusals 1 to 5, and 6 of the section.
 pub fn verdict_convex(convex: &[f64], section: &[f64], clearance: f64) -> Result<bool, Refusal> {
     let (list, count) = (convex.as_ptr(), convex.len());
     verdict(|collision| unsafe {

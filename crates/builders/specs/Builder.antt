@@ -21,26 +21,24 @@ lastOf kept = vertexAt kept (count kept - 1)
 unfoldable pub keep : Vertex → List Float → List Float
 keep v kept = cond (ltb 0 (count kept) && samePoint (lastOf kept) v) kept (kept ++ (v .z ∷ v .r ∷ []))
 
--- a radius in [-1e-9, 0) becomes 0 before that test
+-- a radius in [-1e-9, 0) becomes 0 before that test, in both builders
 abbrev pub raised : Vertex → Vertex
 raised v = vertex (v .z) (max (v .r) 𝟘)
 
-unfoldable pub sectionPoints : List Float → ℕ → List Float
-sectionPoints s n = upto (λ k. keep (raised (vertexAt s k))) [] n
+-- what is kept of the first n points
+unfoldable pub keptPoints : List Float → ℕ → List Float
+keptPoints s n = upto (λ k. keep (raised (vertexAt s k))) [] n
 
 -- 01's `try_from_section`: the closing points (last z, 0) and (first z, 0) follow
 unfoldable pub sectionOf : List Float → List Float
 sectionOf s =
-    let kept = sectionPoints s (count s) in
+    let kept = keptPoints s (count s) in
     keep (vertex (vertexAt kept 0 .z) 𝟘) (keep (vertex (lastOf kept .z) 𝟘) kept)
-
-unfoldable pub polygonPoints : List Float → ℕ → List Float
-polygonPoints s n = upto (λ k. keep (vertexAt s k)) [] n
 
 -- 01's `try_from_polygon`: a repeated closing vertex is dropped
 unfoldable pub polygonOf : List Float → List Float
 polygonOf s =
-    let kept = polygonPoints s (count s) in
+    let kept = keptPoints s (count s) in
     cond (ltb 1 (count kept) && samePoint (vertexAt kept 0) (lastOf kept)) (take (length kept - 2) kept) kept
 
 -- kept points fill the front of the lent space, the rest stays

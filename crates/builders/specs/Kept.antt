@@ -1,13 +1,11 @@
 -- What each builder answers: how many numbers are kept, or the number under which it is turned down; and what is handed back.
 use Prim.Native.Nat.{ℕ, zero, suc, _+_, _*_}
-use mathlib.Core.Bool.{Bool}
 use mathlib.Core.List.{List, [], _∷_, _++_}
 use lib.ListN.{length}
 use lib.Dec.{ltb}
-use lib.Ieee.{Float, neg}
-use Rattle.arith.specs.F64.{_≺_, e-9}
-use Rattle.profile.specs.Vertices.{count, vertexAt, any}
-use Rattle.profile.specs.Refusals.{Test, _when_, refusal, fewer, listTests}
+use lib.Ieee.{Float}
+use Rattle.profile.specs.Vertices.{count}
+use Rattle.profile.specs.Refusals.{Test, _when_, refusal, fewer, listTests, axisTests}
 use Rattle.profile.specs.Replies.{Reply, value, turned-down, reply}
 use Rattle.builders.specs.Builder.{sectionOf, polygonOf}
 use Rattle.builders.specs.declared.shapes.Kept.{Kept}
@@ -18,21 +16,18 @@ abbrev pub told : Kept → Reply ℕ
 told (Numbers n) = value n
 told (Refused n) = turned-down n
 
--- a radius below -1e-9
-abbrev pub anyBelowAxis : List Float → Bool
-anyBelowAxis s = any (λ k. vertexAt s k .r ≺ neg e-9) (count s)
-
 -- a radius below -1e-9, room for two points more, three kept
 abbrev pub sectionOwn : List Float → List Float → List Test
 sectionOwn s space =
-    (6 when anyBelowAxis s) ∷ (7 when ltb (length space) (2 * (count s + 2))) ∷ (8 when fewer 3 (sectionOf s)) ∷ []
+    axisTests s ++ ((7 when ltb (length space) (2 * (count s + 2))) ∷ (8 when fewer 3 (sectionOf s)) ∷ [])
 
 -- 2 to 254 section points
 abbrev pub sectionTests : List Float → List Float → List Test
 sectionTests s space = listTests 2 254 s ++ sectionOwn s space
 
+-- a radius below -1e-9, room for all, three kept
 abbrev pub polygonOwn : List Float → List Float → List Test
-polygonOwn s space = (7 when ltb (length space) (2 * count s)) ∷ (8 when fewer 3 (polygonOf s)) ∷ []
+polygonOwn s space = axisTests s ++ ((7 when ltb (length space) (2 * count s)) ∷ (8 when fewer 3 (polygonOf s)) ∷ [])
 
 -- 3 to 256 vertices
 abbrev pub polygonTests : List Float → List Float → List Test

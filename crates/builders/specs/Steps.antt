@@ -1,27 +1,24 @@
 -- What the functions below the entry points compute on the way to the builders.
 use Prim.Native.Nat.{ℕ, _+_, _*_}
 use mathlib.Core.Bool.{Bool, _&&_, cond}
-use mathlib.Core.List.{List, []}
+use mathlib.Core.List.{List}
 use mathlib.Core.Path.{_≡_}
 use lib.ListN.{set, take}
 use lib.Dec.{ltb}
 use lib.Ieee.{Float}
 use Rattle.arith.specs.F64.{𝟘}
-use Rattle.profile.specs.Vertices.{vertex, count, vertexAt, upto}
+use Rattle.profile.specs.Vertices.{vertex, count, vertexAt}
 use Rattle.profile.specs.declared.shapes.Vertex.{Vertex}
 use Rattle.profile.specs.Replies.{Reply}
-use Rattle.builders.specs.Builder.{samePoint, lastOf, keep, raised, filled}
+use Rattle.builders.specs.Builder.{samePoint, lastOf, raised, filled}
 use Rattle.builders.specs.Kept.{told}
 use Rattle.builders.specs.declared.builder.Run.{Run}
 use Rattle.builders.specs.declared.shapes.Kept.{Kept}
 use Rattle.builders.specs.declared.shapes.Kept.the-variants.{Numbers, Refused}
 
--- a builder's point k: a section's radius is raised to 0, a polygon's is not
-abbrev pub pointAt : Bool → List Float → ℕ → Vertex
-pointAt raise s k = cond raise (raised (vertexAt s k)) (vertexAt s k)
-
-unfoldable pub keptPoints : Bool → List Float → ℕ → List Float
-keptPoints raise s n = upto (λ k. keep (pointAt raise s k)) [] n
+-- a builder's point k, its radius raised to 0
+abbrev pub pointAt : List Float → ℕ → Vertex
+pointAt s k = raised (vertexAt s k)
 
 -- the last vertex that is kept, (0, 0) while there is none, and how many are
 abbrev pub run : Vertex → ℕ → Run

@@ -2,15 +2,14 @@
 // front of the lent space.
 ghost use mathlib.Core.Path.{_≡_};
 ghost use Prim.Native.Nat.{_+_, _*_, _<_, _≤_};
-ghost use lib.Ieee.{neg};
 ghost use lib.ListN.{length};
-ghost use Rattle.arith.specs.F64.{_≺_, e-9};
-ghost use Rattle.profile.specs.Vertices.{count, vertexAt, any};
+ghost use Rattle.profile.specs.Vertices.{count};
 ghost use Rattle.builders.specs.Builder as builder;
-ghost use Rattle.builders.specs.Kept.{told, anyBelowAxis, sectionAnswer, polygonAnswer, sectionKept, polygonKept};
-ghost use Rattle.builders.specs.Steps.{isRepeat, pushed, pushedSpace, written, pointAt, keptPoints, runOf, frontKept, threeKept, numbersOf, Builds};
+ghost use Rattle.builders.specs.Kept.{told, sectionAnswer, polygonAnswer, sectionKept, polygonKept};
+ghost use Rattle.builders.specs.Steps.{isRepeat, pushed, pushedSpace, written, pointAt, runOf, frontKept, threeKept, numbersOf, Builds};
 use super::shapes::Kept;
 use profile::Vertex;
+use profile::any_below_axis;
 use profile::list_refusal;
 use profile::vertex_at;
 
@@ -26,19 +25,16 @@ fn same_point(a: Vertex, b: Vertex) -> bool
     arith::abs(a.z - b.z) <= 1e-12 && arith::abs(a.r - b.r) <= 1e-12
 }
 
-// Point k of the list, a negative radius raised to 0 for a section.
-fn point_at(points: &[f64], k: usize, raise: bool) -> Vertex
+// Point k of the list, a negative radius raised to 0.
+fn point_at(points: &[f64], k: usize) -> Vertex
     requires { ⌜ k < count (now points) ⌝ }
-    ensures { λ r. ⌜ r ≡ pointAt raise (now (points .entry)) k ⌝ }
+    ensures { λ r. ⌜ r ≡ pointAt (now (points .entry)) k ⌝ }
 {
     let v = vertex_at(points, k);
-    if raise {
-        return Vertex {
-            z: v.z,
-            r: arith::max(v.r, 0.0),
-        };
+    Vertex {
+        z: v.z,
+        r: arith::max(v.r, 0.0),
     }
-    v
 }
 
 // Writes v in place `at`, below the limit.
@@ -76,12 +72,12 @@ fn push_dedup(space: &mut [f64], limit: usize, run: Run, v: Vertex) -> Run
 }
 
 // Keeps the points one after the other, and writes as many as the limit says.
-fn push_points(points: &[f64], raise: bool, space: &mut [f64], limit: usize) -> Run
+fn push_points(points: &[f64], space: &mut [f64], limit: usize) -> Run
     requires { ⌜ (count (now points) ≤ 256) × (limit * 2 ≤ length (now space)) ⌝ }
     ensures { λ r. ⌜
-        (r ≡ runOf (keptPoints raise (now (points .entry)) (count (now (points .entry)))))
+        (r ≡ runOf (builder.keptPoints (now (points .entry)) (count (now (points .entry)))))
         × (now (space .exit)
-        ≡ frontKept limit (keptPoints raise (now (points .entry)) (count (now (points .entry)))) (now (space .entry)))
+        ≡ frontKept limit (builder.keptPoints (now (points .entry)) (count (now (points .entry)))) (now (space .entry)))
         ⌝ }
 {
     let n = points.len() / 2;
@@ -91,7 +87,7 @@ fn push_points(points: &[f64], raise: bool, space: &mut [f64], limit: usize) -> 
     };
     let mut k = 0;
     while k < n {
-        run = push_dedup(space, limit, run, point_at(points, k, raise));
+        run = push_dedup(space, limit, run, point_at(points, k));
         k += 1;
     }
     run
@@ -106,8 +102,8 @@ fn push_section(points: &[f64], space: &mut [f64], limit: usize) -> usize
         × (now (space .exit) ≡ frontKept limit (builder.sectionOf (now (points .entry))) (now (space .entry)))
         ⌝ }
 {
-    let first = point_at(points, 0, true);
-    let run = push_points(points, true, space, limit);
+    let first = point_at(points, 0);
+    let run = push_points(points, space, limit);
     let last = run.last;
     let down = Vertex { z: last.z, r: 0.0 };
     let closing = push_dedup(space, limit, run, down);
@@ -128,8 +124,8 @@ fn push_polygon(points: &[f64], space: &mut [f64], limit: usize) -> usize
         × (now (space .exit) ≡ frontKept limit (builder.polygonOf (now (points .entry))) (now (space .entry)))
         ⌝ }
 {
-    let first = point_at(points, 0, false);
-    let run = push_points(points, false, space, limit);
+    let first = point_at(points, 0);
+    let run = push_points(points, space, limit);
     let n = run.count;
     if n <= 1 {
         return n;
@@ -138,21 +134,6 @@ fn push_polygon(points: &[f64], space: &mut [f64], limit: usize) -> usize
         return n - 1;
     }
     n
-}
-
-// A radius below -1e-9.
-fn any_below_axis(points: &[f64]) -> bool
-    ensures { λ r. ⌜ r ≡ anyBelowAxis (now (points .entry)) ⌝ }
-{
-    let n = points.len() / 2;
-    let mut k = 0;
-    while k < n {
-        if points[k * 2 + 1] < -1e-9 {
-            return true;
-        }
-        k += 1;
-    }
-    false
 }
 
 // Number 8 where fewer than 3 vertices are kept.
@@ -192,6 +173,9 @@ pub fn check_polygon(points: &[f64], space: &[f64]) -> Kept
     let number = list_refusal(points, 3, 256);
     if number != 0 {
         return Kept::Refused(number);
+    }
+    if any_below_axis(points) {
+        return Kept::Refused(6);
     }
     let n = points.len() / 2;
     if space.len() < n * 2 {

@@ -6,7 +6,7 @@ use mathlib.Core.List.{List, [], _++_}
 use mathlib.Core.Path.{_≡_, sym, subst, _∙_}
 use lib.Dec.{T}
 use lib.Ieee.{Float, binary64, fits, ofBits}
-use Rattle.profile.specs.Refusals.{Test, refusal}
+use Rattle.profile.specs.Refusals.{Test, refusal, axisTests}
 use Rattle.profile.specs.Steps.{numbered}
 use Rattle.settings.specs.declared.shapes.Settings.{Settings}
 use Rattle.settings.specs.Settings.{finest, settingsTests}
@@ -35,14 +35,14 @@ f64s c ax ay az bx by bz r =
 
 -- a cylinder that is not turned down, whatever else is given with it; settings that are taken
 measurable : {s : List Float} {c : Cylinder} {a : Axis} {extra : List Float} {n r : ℕ} (settings : List Test)
-    → T (numbered settings) → T (numbered (settings ++ cylinderOwn (c .radius) (axis c))) → (t : Settings) → SettingsTaken t
+    → T (numbered settings) → T (numbered (settings ++ (axisTests s ++ cylinderOwn (c .radius) (axis c)))) → (t : Settings) → SettingsTaken t
     → IsF64 (t .tolerance) → a ≡ axis c → Checked s c extra n r → n ≡ refusal settings → r ≡ 0 → Measurable s c a t
 measurable {s} {c} {a} {extra} settings h k t taken g e checked i z =
     let passed : refusal (cylinderTests s c extra settings) ≡ 0 = sym (checked .number settings h i) ∙ z in
     record {
       along = e;
       walkable = record {
-        vertices = section-long s _ (settings ++ cylinderOwn (c .radius) (axis c)) k passed;
+        vertices = section-long s _ (settings ++ (axisTests s ++ cylinderOwn (c .radius) (axis c))) k passed;
         samples = taken .samples;
         room = walk-covers s c extra settings k (checked .f64s) passed t taken g a .room;
       };

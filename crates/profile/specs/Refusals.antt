@@ -5,10 +5,10 @@ use mathlib.Core.Bool.{Bool, false, not, _||_, cond}
 use mathlib.Core.List.{List, [], _∷_, _++_}
 use lib.ListN.{length}
 use lib.Dec.{eqb, ltb}
-use lib.Ieee.{Float}
-use Rattle.arith.specs.F64.{_≺_, 𝟘, limit}
+use lib.Ieee.{Float, neg}
+use Rattle.arith.specs.F64.{_≺_, 𝟘, e-9, limit}
 use Rattle.arith.specs.Num.{abs, isFinite}
-use Rattle.profile.specs.Vertices.{count}
+use Rattle.profile.specs.Vertices.{count, vertexAt, any}
 use Rattle.profile.specs.declared.shapes.Aabb.{Aabb}
 use Rattle.profile.specs.declared.shapes.Sphere.{Sphere}
 use Rattle.arith.specs.declared.vector.Vec3.{Vec3}
@@ -67,6 +67,14 @@ listTests least most l = shapeTests least most (l ∷ []) ++ numberTests l
 abbrev pub givenTests : List (List Float) → List Float → List Test
 givenTests lists given = shapeTests 3 256 lists ++ numberTests given
 
+-- a vertex, or a point of a builder, has a radius below -1e-9
+unfoldable pub anyBelowAxis : List Float → Bool
+anyBelowAxis s = any (λ k. vertexAt s k .r ≺ neg e-9) (count s)
+
+-- the section's own
+abbrev pub axisTests : List Float → List Test
+axisTests s = (6 when anyBelowAxis s) ∷ []
+
 -- the body's own
 abbrev pub radiusTests : Float → List Test
 radiusTests radius = (9 when radius ≺ 𝟘) ∷ []
@@ -76,9 +84,9 @@ boundsTests x = (10 when ((x .z1 ≺ x .z0) || (x .r1 ≺ x .r0))) ∷ []
 
 -- ---- the calls: a section, a body, and more numbers that are given with them
 
--- then the tests of the call's settings, then the body's own
+-- then the tests of the call's settings, then the section's own, then the body's
 abbrev pub besideTests : List Float → List Float → List Float → List Test → List Test → List Test
-besideTests s numbers extra settings own = givenTests (s ∷ []) (s ++ (numbers ++ extra)) ++ (settings ++ own)
+besideTests s numbers extra settings own = givenTests (s ∷ []) (s ++ (numbers ++ extra)) ++ (settings ++ (axisTests s ++ own))
 
 abbrev pub pointNumbers : Vec3 → List Float
 pointNumbers p = p .x ∷ p .y ∷ p .z ∷ []
@@ -98,5 +106,6 @@ sphereTests s b extra settings = besideTests s (sphereNumbers b) extra settings 
 abbrev pub boxTests : List Float → Aabb → List Float → List Test → List Test
 boxTests s x extra settings = besideTests s (boxNumbers x) extra settings (boundsTests x)
 
+-- a convex body may lie below the axis
 abbrev pub convexTests : List Float → List Float → List Float → List Test
-convexTests c s extra = givenTests (c ∷ s ∷ []) (c ++ (s ++ extra))
+convexTests c s extra = givenTests (c ∷ s ∷ []) (c ++ (s ++ extra)) ++ axisTests s

@@ -10,6 +10,7 @@ pub use shapes::Sphere;
 pub use shapes::Vertex;
 
 // For the crates above.
+pub use refusal::any_below_axis;
 pub use refusal::body_refusal;
 pub use refusal::box_refusal;
 pub use refusal::convex_refusal;

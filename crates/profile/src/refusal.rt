@@ -143,13 +143,38 @@ fn bounds_refusal(x: Aabb) -> u32
     if x.r1 < x.r0 { 10 } else { 0 }
 }
 
+// A radius below -1e-9.
+pub fn any_below_axis(l: &[f64]) -> bool
+    ensures { λ r. ⌜ r ≡ refusals.anyBelowAxis (now (l .entry)) ⌝ }
+{
+    let n = l.len() / 2;
+    let mut k = 0;
+    while k < n {
+        if l[k * 2 + 1] < -1e-9 {
+            return true;
+        }
+        k += 1;
+    }
+    false
+}
+
+// Number 6 of a section; then the body's own.
+fn axis_refusal(s: &[f64], own: u32) -> u32
+    ensures { λ r. ⌜ r ≡ orElse (refusal (refusals.axisTests (now (s .entry)))) own ⌝ }
+{
+    if any_below_axis(s) {
+        return 6;
+    }
+    own
+}
+
 // A section of 3 to 256 vertices, a body's numbers and more that are given; then the number of the call's
-// settings, then the body's own.
+// settings, then the section's own, then the body's.
 pub fn body_refusal(s: &[f64], numbers: &[f64], extra: &[f64], settings: u32, own: u32) -> u32
     ensures { λ r. ⌜
         (let l = now (s .entry) in
         let given = refusals.givenTests (l ∷ []) (l ++ (now (numbers .entry) ++ now (extra .entry))) in
-        r ≡ orElse (refusal given) (orElse settings own))
+        r ≡ orElse (refusal given) (orElse settings (orElse (refusal (refusals.axisTests l)) own)))
         ⌝ }
 {
     let of_shape = shape_refusal(s, 3, 256);
@@ -163,7 +188,7 @@ pub fn body_refusal(s: &[f64], numbers: &[f64], extra: &[f64], settings: u32, ow
     if settings != 0 {
         return settings;
     }
-    own
+    axis_refusal(s, own)
 }
 
 pub fn point_refusal(s: &[f64], p: Vec3) -> u32
@@ -189,7 +214,7 @@ pub fn box_refusal(s: &[f64], x: Aabb, extra: &[f64], settings: u32) -> u32
     body_refusal(s, &numbers[..], extra, settings, bounds_refusal(x))
 }
 
-// Two lists of 3 to 256 vertices, and more numbers that are given.
+// Two lists of 3 to 256 vertices, and more numbers that are given; then the section's own.
 pub fn convex_refusal(c: &[f64], s: &[f64], extra: &[f64]) -> u32
     ensures { λ r. ⌜ r ≡ refusal (refusals.convexTests (now (c .entry)) (now (s .entry)) (now (extra .entry))) ⌝ }
 {
@@ -197,5 +222,9 @@ pub fn convex_refusal(c: &[f64], s: &[f64], extra: &[f64]) -> u32
     if of_shapes != 0 {
         return of_shapes;
     }
-    numbers_refusal(c, s, extra)
+    let number = numbers_refusal(c, s, extra);
+    if number != 0 {
+        return number;
+    }
+    axis_refusal(s, 0)
 }

@@ -19,8 +19,8 @@ use Rattle.segments.specs.Clip.{clipSide, clip}
 use Rattle.boxes.specs.Boxes.{edgeBox, strictlyInsideAabb, segmentThroughInterior, boxGap, boxPenetration, boxWitness}
 use Rattle.boxes.specs.Boxes.{boxHolds, boxDistance, aabb}
 use Rattle.points.specs.Overlap.{resultOf}
-use Rattle.builders.specs.Builder.{samePoint, keep, sectionPoints, sectionOf, polygonPoints, polygonOf}
-use Rattle.profile.specs.Refusals.{refusal, anyOf}
+use Rattle.builders.specs.Builder.{samePoint, keep, keptPoints, sectionOf, polygonOf}
+use Rattle.profile.specs.Refusals.{refusal, anyOf, anyBelowAxis}
 use Rattle.profile.specs.Replies.{Reply, value, turned-down}
 use Rattle.section.specs.Answers.{pointAnswer, sphereAnswer, boxAnswer}
 use Rattle.builders.specs.Kept.{sectionAnswer, polygonAnswer}
@@ -45,11 +45,12 @@ mm n = ofInt binary64 (pos n)
 abbrev pub S : List Float
 S = sectionOf (mm 0 ∷ mm 10 ∷ mm 20 ∷ mm 10 ∷ [])
 
--- A row: what a builder keeps; what a query of S answers; a distance that every point has; what a builder answers.
+-- A row: what a builder keeps; what a query of S answers, or of another section; a distance that every point has; what a builder answers.
 pub data Row : Type 0 where
   keeps : List Float → List Float → Row
   point : Vec3 → Reply CollisionHit → Row
   sphere : Sphere → Reply CollisionHit → Row
+  sphereBeside : List Float → Sphere → Reply CollisionHit → Row
   box : Aabb → Reply CollisionHit → Row
   cylinder : Cylinder → Reply CountedHit → Row
   cylinderAt : Cylinder → Settings → Reply CountedHit → Row
@@ -61,6 +62,7 @@ abbrev pub Holds : Row → Type 0
 Holds (keeps given kept) = sectionOf given ≡ kept
 Holds (point p a) = pointAnswer S p ≡ a
 Holds (sphere b a) = sphereAnswer S b ≡ a
+Holds (sphereBeside s b a) = sphereAnswer s b ≡ a
 Holds (box x a) = boxAnswer S x ≡ a
 Holds (cylinder c a) = cylinderAnswer S c finest ≡ a
 Holds (cylinderAt c t a) = cylinderAnswer S c t ≡ a
@@ -131,6 +133,11 @@ readings =
     ∷ cylinder (bar (at 0 0 0) (at 1 1 0) (mm 1)) (turned-down 11)
     -- a tolerance of 2 mm, along the spindle too
     ∷ cylinderAt (bar (at 15 0 0) (at 15 0 30) (mm 2)) (settings (mm 2) 8192 16) (turned-down 18)
+    -- a radius below -1e-9 in a polygon, and in a query's section, before the body's own number
+    ∷ polygon (mm 0 ∷ mm 10 ∷ mm 20 ∷ mm 10 ∷ mm 20 ∷ neg (mm 1) ∷ []) (room 6) (turned-down 6)
+    ∷ sphereBeside (mm 0 ∷ mm 10 ∷ mm 20 ∷ mm 10 ∷ mm 20 ∷ neg (mm 1) ∷ []) (ball (at 0 0 30) (neg (mm 1))) (turned-down 6)
+    -- raised before it is dropped as a repeat
+    ∷ polygon (mm 0 ∷ neg e-9 ∷ mm 0 ∷ mm 0 ∷ mm 20 ∷ mm 10 ∷ mm 20 ∷ mm 0 ∷ []) (room 8) (value 6)
     -- the limit is taken, and a radius of -1e-9 is taken as 0
     ∷ section (mm 1048576 ∷ mm 10 ∷ mm 20 ∷ mm 10 ∷ []) (room 8) (value 8)
     ∷ keeps (mm 0 ∷ neg e-9 ∷ mm 20 ∷ mm 10 ∷ []) (mm 0 ∷ mm 0 ∷ mm 20 ∷ mm 10 ∷ mm 20 ∷ mm 0 ∷ mm 0 ∷ mm 0 ∷ [])
@@ -141,12 +148,12 @@ pub all-readings : All readings
 unfolding add sub mul div neg lt le ofInt ofBits sqrt hypot isFinite
     upto any closest closestPlaces segments surfaceStep surfaceNear crosses pointInside insideAxisEdge inSection
     pointDistance sphereDistance clipSide clip edgeBox strictlyInsideAabb segmentThroughInterior boxGap boxPenetration boxWitness
-    boxHolds resultOf boxDistance samePoint keep sectionPoints sectionOf polygonPoints polygonOf
-    refusal anyOf pointAnswer sphereAnswer boxAnswer sectionAnswer polygonAnswer
+    boxHolds resultOf boxDistance samePoint keep keptPoints sectionOf polygonOf
+    refusal anyOf anyBelowAxis pointAnswer sphereAnswer boxAnswer sectionAnswer polygonAnswer
     axisDir axis axialBox bandOf halfWidth spanAt widest narrowest pieceBox variation sampleVertex sampled walk walkAll bandDistance
     cylinderDistance cylinderAnswer
 all-readings =
     let all-points : Holds (everywhere (mm 0 ∷ mm 0 ∷ mm 20 ∷ mm 0 ∷ []) ∞) = λ p. refl in
     refl and refl and refl and refl and refl and refl and refl and refl and refl and refl and refl and refl
     and refl and all-points and refl and refl and refl and refl and refl and refl and refl and refl and refl
-    and refl and refl and refl and refl and refl and refl and refl and refl and end
+    and refl and refl and refl and refl and refl and refl and refl and refl and refl and refl and refl and end

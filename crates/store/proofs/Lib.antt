@@ -6,5 +6,7 @@ pub mod Following
 pub mod Ending
 pub mod Gathering
 pub mod Reading
+pub mod Numbers
+pub mod Axis
 pub mod Lengths
 pub mod Sums

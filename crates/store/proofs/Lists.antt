@@ -2,12 +2,12 @@
 use Prim.Native.Nat.{ℕ, _+_, _<_, _≤_}
 use native.Mathlib.Numerals.{add-one}
 use native.Mathlib.Omega.{arith}
-use mathlib.Core.Bool.{true, false}
+use mathlib.Core.Bool.{Bool, true, false}
 use mathlib.Core.List.{List, [], _∷_, _++_, append-assoc, append-nil, flatMap}
 use mathlib.Core.Path.{_≡_, refl, ap, _∙_}
 use lib.ListN.{length, take, drop, getD, drop-of-length-le, length-append}
 use lib.Seq.{take-suc, drop-cons, sets, sets-eq, take-at, length-take-le}
-use Rattle.store.specs.Kinds.{rightKind, kindsAnswer}
+use Rattle.store.specs.First.{firstRefused}
 use Rattle.store.specs.declared.answers.StoreAnswer.the-variants.{Accepted, Refused}
 
 module _ {A : Type 0} where
@@ -37,17 +37,17 @@ module _ {A B : Type 0} (f : A → List B) where
   unfolding flatMap
   flatMap-more l i d h = rw (take-more l i d h, flatMap-append, append-nil)
 
--- the search for a wrong kind: one record more, a find, and the end
-module _ (b l : List ℕ) (i : ℕ) where
-  pub kinds-more :
-      i < length l → rightKind b (getD l i 0) ≡ true → kindsAnswer b (drop i l) ≡ kindsAnswer b (drop (i + 1) l)
-  unfolding kindsAnswer
-  kinds-more h right = rw (drop-more l i 0 h, right)
+-- the search for the first record of which a test is true: one record more, a find, and the end
+module _ (n : ℕ) (test : ℕ → Bool) (l : List ℕ) (i : ℕ) where
+  pub first-more :
+      i < length l → test (getD l i 0) ≡ false → firstRefused n test (drop i l) ≡ firstRefused n test (drop (i + 1) l)
+  unfolding firstRefused
+  first-more h passed = rw (drop-more l i 0 h, passed)
 
-  pub kinds-found : i < length l → rightKind b (getD l i 0) ≡ false → kindsAnswer b (drop i l) ≡ Refused 14 (getD l i 0)
-  unfolding kindsAnswer
-  kinds-found h wrong = rw (drop-more l i 0 h, wrong)
+  pub first-found : i < length l → test (getD l i 0) ≡ true → firstRefused n test (drop i l) ≡ Refused n (getD l i 0)
+  unfolding firstRefused
+  first-found h found = rw (drop-more l i 0 h, found)
 
-  pub kinds-end : length l ≤ i → kindsAnswer b (drop i l) ≡ Accepted
-  unfolding kindsAnswer
-  kinds-end h = rw (drop-of-length-le l h)
+  pub first-end : length l ≤ i → firstRefused n test (drop i l) ≡ Accepted
+  unfolding firstRefused
+  first-end h = rw (drop-of-length-le l h)

@@ -1,4 +1,4 @@
--- The verdict on a store, part by part: the length, the links, the kinds and the section.
+-- The verdict on a store, part by part: the length, the links, the kinds, the section and the radii.
 use Prim.Native.Nat.{ℕ, zero, suc, _*_, _/_, _%_, _<_, _≤_}
 use native.Mathlib.Omega.{arith}
 use mathlib.Core.Bool.{not}
@@ -15,6 +15,7 @@ use Rattle.profile.proofs.Refusals.Passed.{Counted, list-counted}
 use Rattle.store.specs.Records.{records}
 use Rattle.store.specs.Chain.{Chain, whole, broken, chain, inOrder}
 use Rattle.store.specs.Kinds.{kindsAnswer}
+use Rattle.store.specs.Radii.{radiiAnswer}
 use Rattle.store.specs.Store.{andThen, lengthAnswer, linksAnswer, vertices, numbered, sectionAnswer, chained, storeAnswer}
 use Rattle.store.specs.declared.answers.StoreAnswer.{StoreAnswer}
 use Rattle.store.specs.declared.answers.StoreAnswer.the-variants.{Accepted, Refused}
@@ -58,10 +59,13 @@ pub numbered-refused : (n : ℕ) → (n ≡ 0 → ⊥) → numbered n ≡ Refuse
 numbered-refused zero h = absurd (h refl)
 numbered-refused (suc n) h = refl
 
--- an accepted section has 3 to 256 vertices
-pub section-accepted : (s : List Float) → sectionAnswer s ≡ Accepted → Counted 3 256 s
+-- an accepted section has none of the numbers, and 3 to 256 vertices
+pub section-passes : (s : List Float) → sectionAnswer s ≡ Accepted → refusal (listTests 3 256 s) ≡ 0
 unfolding sectionAnswer
-section-accepted s e = list-counted 3 256 s (none-numbered (refusal (listTests 3 256 s)) e)
+section-passes s e = none-numbered (refusal (listTests 3 256 s)) e
+
+pub section-accepted : (s : List Float) → sectionAnswer s ≡ Accepted → Counted 3 256 s
+section-accepted s e = list-counted 3 256 s (section-passes s e)
 
 pub too-many : (s : List Float) (n : ℕ) → length s ≡ n * 2 → 256 < n → sectionAnswer s ≡ Refused 3 0
 unfolding sectionAnswer refusal anyOf
@@ -83,6 +87,7 @@ pub record AcceptedStore (b : List ℕ) : Type 0 where
   pub links : chain b ≡ whole (chained b)
   pub kinds : kindsAnswer b (chained b) ≡ Accepted
   pub section : sectionAnswer (vertices b (chained b)) ≡ Accepted
+  pub radii : radiiAnswer b (chained b) ≡ Accepted
 
 pub accepted-sound : (b : List ℕ) → storeAnswer b ≡ Accepted → AcceptedStore b
 unfolding storeAnswer chained
@@ -90,16 +95,18 @@ accepted-sound b e =
     let first = both (lengthAnswer (length b)) _ e in
     let second = both (linksAnswer (chain b)) _ (first .1) in
     let third = both (kindsAnswer b (inOrder (chain b))) _ (second .1) in
+    let fourth = both (sectionAnswer (vertices b (inOrder (chain b)))) _ (third .1) in
     let size = length-accepted (length b) (first .0) in
     record {
       some = size .some;
       most = size .most;
       links = whole-chain (chain b) (second .0);
       kinds = third .0;
-      section = third .1;
+      section = fourth .0;
+      radii = fourth .1;
     }
 
--- a store's answer is that of its length and links, or else that of its kinds and section
+-- a store's answer is that of its length and links, or else that of its kinds, section and radii
 then-then : (a b c : StoreAnswer) → andThen a (andThen b c) ≡ andThen (andThen a b) c
 then-then Accepted b c = refl
 then-then (Refused n k) b c = refl
@@ -108,7 +115,7 @@ module _ (b : List ℕ) where
   parts :
       storeAnswer b
       ≡ andThen (andThen (lengthAnswer (length b)) (linksAnswer (chain b)))
-      (andThen (kindsAnswer b (chained b)) (sectionAnswer (vertices b (chained b))))
+      (andThen (kindsAnswer b (chained b)) (andThen (sectionAnswer (vertices b (chained b))) (radiiAnswer b (chained b))))
   unfolding storeAnswer
   parts = then-then (lengthAnswer (length b)) (linksAnswer (chain b)) _
 
@@ -118,5 +125,6 @@ module _ (b : List ℕ) where
 
   pub decided-second :
       {ks : List ℕ} {a : StoreAnswer} → andThen (lengthAnswer (length b)) (linksAnswer (chain b)) ≡ Accepted
-      → ks ≡ chained b → andThen (kindsAnswer b ks) (sectionAnswer (vertices b ks)) ≡ a → storeAnswer b ≡ a
+      → ks ≡ chained b → andThen (kindsAnswer b ks) (andThen (sectionAnswer (vertices b ks)) (radiiAnswer b ks)) ≡ a
+      → storeAnswer b ≡ a
   decided-second e same h = parts ∙ rw (e, ← same) h

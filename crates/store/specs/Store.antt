@@ -1,4 +1,4 @@
--- The verdict on a store: 12, 15, 16, 13 and 14 are tried first, then the section's 2 to 5.
+-- The verdict on a store: 12, 15, 16, 13 and 14 are tried first, then the section's 2 to 5, then 6.
 use Prim.Native.Nat.{ℕ, zero, suc, _/_, _%_}
 use mathlib.Core.Bool.{cond}
 use mathlib.Core.List.{List, [], _∷_, flatMap}
@@ -9,6 +9,7 @@ use Rattle.profile.specs.Refusals.{_when_, refusal, listTests}
 use Rattle.store.specs.Records.{number}
 use Rattle.store.specs.Chain.{Chain, whole, broken, chain, inOrder}
 use Rattle.store.specs.Kinds.{isVertex, kindsAnswer}
+use Rattle.store.specs.Radii.{radiiAnswer}
 use Rattle.store.specs.declared.answers.StoreAnswer.{StoreAnswer}
 use Rattle.store.specs.declared.answers.StoreAnswer.the-variants.{Accepted, Refused}
 
@@ -39,7 +40,7 @@ vertexNumbers b k = cond (isVertex b k) (number b k 0 ∷ number b k 1 ∷ []) [
 unfoldable pub vertices : List ℕ → List ℕ → List Float
 vertices b ks = flatMap (vertexNumbers b) ks
 
--- the section's own number; 1 never comes, since each vertex gives two numbers
+-- the section's 2 to 5; 1 never comes, since each vertex gives two numbers
 unfoldable pub sectionAnswer : List Float → StoreAnswer
 sectionAnswer s = numbered (refusal (listTests 3 256 s))
 
@@ -47,10 +48,11 @@ sectionAnswer s = numbered (refusal (listTests 3 256 s))
 unfoldable pub chained : List ℕ → List ℕ
 chained b = inOrder (chain b)
 
--- 12, 15, 16, 13, 14, then the section's: the whole chain is walked for 13 before any kind is looked at
+-- 12, 15, 16, 13, 14, the section's 2 to 5, then 6: the whole chain is walked for 13 before any kind is looked at
 unfoldable pub storeAnswer : List ℕ → StoreAnswer
 storeAnswer b =
     andThen (lengthAnswer (length b))
     (andThen (linksAnswer (chain b))
     (andThen (kindsAnswer b (chained b))
-    (sectionAnswer (vertices b (chained b)))))
+    (andThen (sectionAnswer (vertices b (chained b)))
+    (radiiAnswer b (chained b)))))

@@ -3,6 +3,7 @@ mod answers;
 mod bytes;
 mod chain;
 mod kinds;
+mod radii;
 mod reader;
 mod vertices;
 

@@ -1,14 +1,16 @@
-// Reading a store: its refusals in their order, 12, 15, 16, 13, 14, then those of its section.
+// Reading a store: its refusals in their order, 12, 15, 16, 13, 14, then 2 to 6 of its section.
 ghost use mathlib.Core.Path.{_≡_};
 ghost use lib.ListN.{length};
 ghost use Rattle.store.specs.Chain.{chain};
 ghost use Rattle.store.specs.Kinds.{kindsAnswer};
+ghost use Rattle.store.specs.Radii.{radiiAnswer};
 ghost use Rattle.store.specs.Store.{andThen, lengthAnswer, linksAnswer, chained, vertices, sectionAnswer, storeAnswer};
 ghost use Rattle.store.specs.Steps.{SectionRoom, Fills};
 use super::answers::Filled;
 use super::answers::StoreAnswer;
 use super::chain::follow_chain;
 use super::kinds::kinds_answer;
+use super::radii::radii_answer;
 use super::vertices::gather;
 use profile::list_refusal;
 
@@ -44,8 +46,8 @@ pub fn read_chain(store: &[u8], order: &mut [u32]) -> Filled
 // Fills space with the section, once the kinds are right.
 pub fn read_section(store: &[u8], order: &[u32], space: &mut [f64]) -> Filled
     requires { ⌜ SectionRoom (now order) (now space) ⌝ }
-    ensures { λ r. ⌜ (let b = now (store .entry) in let s = vertices b (now (order .entry)) in
-        Fills (andThen (kindsAnswer b (now (order .entry))) (sectionAnswer s)) s r (now (space .exit))) ⌝ }
+    ensures { λ r. ⌜ (let b = now (store .entry) in let ks = now (order .entry) in let s = vertices b ks in
+        Fills (andThen (kindsAnswer b ks) (andThen (sectionAnswer s) (radiiAnswer b ks))) s r (now (space .exit))) ⌝ }
 {
     let kinds = kinds_answer(store, order);
     match kinds {
@@ -56,8 +58,8 @@ pub fn read_section(store: &[u8], order: &[u32], space: &mut [f64]) -> Filled
 
 fn fill_section(store: &[u8], order: &[u32], space: &mut [f64]) -> Filled
     requires { ⌜ SectionRoom (now order) (now space) ⌝ }
-    ensures { λ r. ⌜ (let s = vertices (now (store .entry)) (now (order .entry)) in
-        Fills (sectionAnswer s) s r (now (space .exit))) ⌝ }
+    ensures { λ r. ⌜ (let b = now (store .entry) in let ks = now (order .entry) in let s = vertices b ks in
+        Fills (andThen (sectionAnswer s) (radiiAnswer b ks)) s r (now (space .exit))) ⌝ }
 {
     let n = gather(store, order, space);
     if n > 256 {
@@ -65,10 +67,14 @@ fn fill_section(store: &[u8], order: &[u32], space: &mut [f64]) -> Filled
     }
     let end = n * 2;
     let number = list_refusal(&space[..end], 3, 256);
-    if number == 0 {
-        return Filled::Front(end);
+    if number != 0 {
+        return Filled::Refused(number, 0);
     }
-    Filled::Refused(number, 0)
+    let radii = radii_answer(store, order);
+    match radii {
+        StoreAnswer::Refused(number, k) => Filled::Refused(number, k),
+        StoreAnswer::Accepted => Filled::Front(end),
+    }
 }
 
 // Accepted, or refused with its number and the record K.

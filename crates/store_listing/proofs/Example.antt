@@ -14,12 +14,14 @@ use Rattle.segments.specs.Clip.{clipSide, clip}
 use Rattle.boxes.specs.Boxes.{edgeBox, strictlyInsideAabb, segmentThroughInterior, boxGap, boxPenetration, boxWitness, boxHolds}
 use Rattle.points.specs.Overlap.{resultOf}
 use Rattle.boxes.specs.Boxes.{boxDistance}
-use Rattle.profile.specs.Refusals.{anyOf, refusal}
+use Rattle.profile.specs.Refusals.{anyOf, anyBelowAxis, refusal}
 use Rattle.section.specs.Answers.{boxAnswer}
 use Rattle.store.specs.Bytes.{littleEndian}
 use Rattle.store.specs.Records.{next, kind, number}
 use Rattle.store.specs.Chain.{follow, chain}
-use Rattle.store.specs.Kinds.{rightKind, kindsAnswer}
+use Rattle.store.specs.First.{firstRefused}
+use Rattle.store.specs.Kinds.{rightKind}
+use Rattle.store.specs.Radii.{belowAxis}
 use Rattle.store.specs.Store.{vertices, lengthAnswer, sectionAnswer, storeAnswer, chained}
 use Rattle.store_listing.specs.Text.{text, decimalAtMost, decimal, hex, bits}
 use Rattle.store_listing.specs.Listing.{bodyAnswer, fieldText, hitText, bodyLine, sectionLine, refusalLine, acceptedText, listing}
@@ -46,8 +48,8 @@ example =
 pub example-lists : listing example ≡ text "section 4\n5 4014000000000000 4034000000000000 0000000000000000\n"
 unfolding add sub mul div neg lt le eq ofInt ofBits toBits isFinite hypot upto any closest closestPlaces segments
     surfaceStep surfaceNear crosses pointInside insideAxisEdge inSection pointDistance clipSide clip edgeBox
-    strictlyInsideAabb segmentThroughInterior boxGap boxPenetration boxWitness boxHolds resultOf boxDistance anyOf refusal
-    boxAnswer littleEndian next kind number follow chain rightKind kindsAnswer vertices
+    strictlyInsideAabb segmentThroughInterior boxGap boxPenetration boxWitness boxHolds resultOf boxDistance anyOf
+    anyBelowAxis refusal boxAnswer littleEndian next kind number follow chain rightKind firstRefused belowAxis vertices
     lengthAnswer sectionAnswer storeAnswer chained text decimalAtMost decimal hex bits bodyAnswer fieldText hitText bodyLine sectionLine refusalLine
     acceptedText listing lowBytes recordBytes example flatMap
 example-lists = refl

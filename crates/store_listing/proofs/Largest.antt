@@ -2,7 +2,7 @@
 -- all. A body's line has at most 52 bytes and its index; a vertex takes away at least the shortest such line.
 use Prim.Native.Nat.{ℕ, zero, suc, _+_, _*_, _/_, _<_, _≤_}
 use native.Mathlib.Omega.{arith}
-use mathlib.Core.Bool.{Bool, true, false, _||_, cond}
+use mathlib.Core.Bool.{Bool, true, false, not, _||_, cond}
 use mathlib.Core.List.{List, [], _∷_, _++_, flatMap}
 use mathlib.Core.Logic.{⊎-elim}
 use mathlib.Core.Path.{_≡_, refl}
@@ -18,6 +18,7 @@ use Rattle.section.specs.Answers.{sphereAnswer, boxAnswer}
 use Rattle.profile.specs.declared.shapes.CollisionHit.{CollisionHit}
 use Rattle.roots.proofs.Numbers.{decide}
 use Rattle.store.specs.Records.{kind, number}
+use Rattle.store.specs.First.{firstRefused}
 use Rattle.store.specs.Kinds.{isSphere, rightKind, kindsAnswer}
 use Rattle.store.specs.Store.{vertexNumbers, vertices, storeAnswer, chained}
 use Rattle.store_listing.specs.Text.{text, decimalAtMost, decimal}
@@ -78,7 +79,7 @@ module _ (d : ℕ) (line : List ℕ) (z r : Float) (w : ℕ) (short : length lin
   kind-cost true right = rw (eqb-true d 0 right) (omega arith)
   kind-cost false right = other-cost (eqb d 1) refl right
 
-kept : (k : ℕ) (right : Bool) (a : StoreAnswer) → cond right a (Refused 14 k) ≡ Accepted → (right ≡ true) × (a ≡ Accepted)
+kept : (k : ℕ) (right : Bool) (a : StoreAnswer) → cond (not right) (Refused 14 k) a ≡ Accepted → (right ≡ true) × (a ≡ Accepted)
 kept k true a e = (refl, e)
 kept k false a e = absurd (let z : _≡_ {A = ℕ} 0 1 = cc in omega arith)
 
@@ -93,7 +94,7 @@ module _ (b : List ℕ) (s : List Float) where
   records-cost :
       (ks : List ℕ) → kindsAnswer b ks ≡ Accepted
       → length (flatMap (recordLine b s) ks) * 2 + length (vertices b ks) * 53 ≤ sumOver weight ks * 2
-  unfolding kindsAnswer flatMap vertices
+  unfolding firstRefused flatMap vertices
   records-cost [] right = omega arith
   records-cost (k ∷ ks) right =
       let h = kept k (rightKind b k) (kindsAnswer b ks) right in

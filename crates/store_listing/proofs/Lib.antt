@@ -3,6 +3,7 @@ pub mod Writing
 pub mod Digits
 pub mod Pieces
 pub mod Largest
+pub mod Own
 pub mod Listed
 pub mod Inputs
 pub mod Example

@@ -1,5 +1,7 @@
 //! The fixed list: queries of every kind and every refusal, from a seed, with the Rust's answers (or the table's).
 
+mod low;
+
 use crate::query::{Answer, Kind, Query, numbers_of};
 use crate::random::Random;
 use crate::{generate, judge, near};
@@ -23,13 +25,12 @@ const LARGEST: usize = 600;
 pub fn refusals(kind: Kind) -> &'static [u32] {
     match kind {
         Kind::Sqrt | Kind::Hypot => &[],
-        Kind::Point | Kind::Convex | Kind::VerdictConvex => &[1, 2, 3, 4, 5],
-        Kind::Sphere | Kind::VerdictSphere => &[1, 2, 3, 4, 5, 9],
-        Kind::Box | Kind::VerdictBox => &[1, 2, 3, 4, 5, 10],
-        Kind::Section => &[1, 2, 3, 4, 5, 6, 7, 8],
-        Kind::Polygon => &[1, 2, 3, 4, 5, 7, 8],
-        Kind::Cylinder | Kind::VerdictCylinder => &[1, 2, 3, 4, 5, 9, 11],
-        Kind::SetCylinder => &[1, 2, 3, 4, 5, 9, 11, 18],
+        Kind::Point | Kind::Convex | Kind::VerdictConvex => &[1, 2, 3, 4, 5, 6],
+        Kind::Sphere | Kind::VerdictSphere => &[1, 2, 3, 4, 5, 6, 9],
+        Kind::Box | Kind::VerdictBox => &[1, 2, 3, 4, 5, 6, 10],
+        Kind::Section | Kind::Polygon => &[1, 2, 3, 4, 5, 6, 7, 8],
+        Kind::Cylinder | Kind::VerdictCylinder => &[1, 2, 3, 4, 5, 6, 9, 11],
+        Kind::SetCylinder => &[1, 2, 3, 4, 5, 6, 9, 11, 18],
     }
 }
 
@@ -75,6 +76,7 @@ fn readings() -> Vec<Query> {
     all.extend([2.0, 2.0 + 2e-9].map(bar));
     all.push(query(Kind::VerdictCylinder, &[0.0, 0.0, 0.0, 1.0, 0.0, 1.0, -1.0, f64::NAN]));
     all.extend(settings().map(|(body, set)| query(Kind::SetCylinder, &[body.as_slice(), &numbers_of(set)].concat())));
+    all.extend(low::queries());
     all
 }
 

@@ -53,7 +53,7 @@ fn answer(query: &Query) -> Option<Answer> {
         Kind::Box => aabb(query).map(values),
         Kind::Convex => convex(query).map(values),
         Kind::Section => built(query, table::build_section, RevolvedSolid::try_from_section),
-        Kind::Polygon => built(query, table::build_polygon, RevolvedSolid::try_from_polygon),
+        Kind::Polygon => built(query, table::build_polygon, try_from_raised),
         Kind::Cylinder => {
             let (hit, trace) = cylinder(query)?;
             Some(walked(Walked { hit, boxes: trace.boxes, waiting: trace.waiting, cut: trace.cut }))
@@ -134,6 +134,12 @@ pub fn space(query: &Query) -> Vec<f64> {
 type BuildByTable = fn(&[f64], &[f64]) -> Result<table::Built, u32>;
 type BuildByRust = fn(&[(f64, f64)]) -> Option<RevolvedSolid>;
 
+/// Request (xi): radii below 0 are raised first, and the Rust does not do that for a polygon; without one it is asked as given.
+fn try_from_raised(points: &[(f64, f64)]) -> Option<RevolvedSolid> {
+    let raised: Vec<_> = points.iter().map(|&(z, radius)| (z, if radius < 0.0 { 0.0 } else { radius })).collect();
+    RevolvedSolid::try_from_polygon(&raised)
+}
+
 fn built_by_rust(query: &Query, rust: BuildByRust) -> Option<RevolvedSolid> {
     rust(&vertices(&query.lists[0]))
 }
@@ -151,7 +157,7 @@ fn built(query: &Query, table: BuildByTable, rust: BuildByRust) -> Option<Answer
 fn rust_refuses(query: &Query, number: u32) -> bool {
     match query.kind {
         Kind::Section => ![6, 8].contains(&number) || built_by_rust(query, RevolvedSolid::try_from_section).is_none(),
-        Kind::Polygon => number != 8 || built_by_rust(query, RevolvedSolid::try_from_polygon).is_none(),
+        Kind::Polygon => number != 8 || built_by_rust(query, try_from_raised).is_none(),
         Kind::Sphere => number != 9 || sphere(query).is_none(),
         Kind::Box => number != 10 || aabb(query).is_none(),
         Kind::Cylinder => number != 11 || cylinder(query).is_none(),

@@ -1,5 +1,5 @@
-//! Document 01's store and its listing, written from 01's text, with 02's numbers for a length. Distances are those of
-//! the published Rust with the exact hypot; refusal numbers are those of the table.
+//! Document 01's store and its listing, written from 01's text, with 02's numbers for a length and its 6. Distances are
+//! those of the published Rust with the exact hypot; refusal numbers are those of the table.
 
 pub mod stores;
 
@@ -52,13 +52,12 @@ fn accepted(store: &[u8]) -> Result<String, Refusal> {
             return Err((14, k));
         }
     }
-    let section: Vec<f64> = chain
-        .iter()
-        .filter(|&&k| records[k].kind == 1)
-        .flat_map(|&k| [records[k].numbers[0], records[k].numbers[1]])
-        .collect();
-    // a point at the origin adds no number of its own
-    table::point(&section, [0.0; 3], &[]).map_err(|number| (number, 0))?;
+    let vertices: Vec<usize> = chain.iter().copied().filter(|&k| records[k].kind == 1).collect();
+    let section: Vec<f64> = vertices.iter().flat_map(|&k| [records[k].numbers[0], records[k].numbers[1]]).collect();
+    let below = vertices.iter().copied().find(|&k| table::below_axis(records[k].numbers[1]));
+    // a point at the origin adds no number of its own; 6 alone names a record
+    table::point(&section, [0.0; 3], &[])
+        .map_err(|number| (number, if number == 6 { below.expect("6 is of a vertex") } else { 0 }))?;
     let mut text = format!("section {}\n", section.len() / 2);
     for &k in &chain {
         line(&mut text, k, &records[k], &section);
@@ -110,12 +109,32 @@ fn bits(x: f64) -> String {
 #[cfg(test)]
 mod tests {
     use super::*;
-    use crate::stores::{example, store};
+    use crate::stores::{S, example, in_order, store};
 
     #[test]
     fn the_example_of_01() {
         let lines = "section 4\n5 4014000000000000 4034000000000000 0000000000000000\n";
         assert_eq!(listing(&example()), lines);
+    }
+
+    /// The example with these radii in records 1 to 4.
+    fn with_radii(radii: [f64; 4]) -> Vec<u8> {
+        let vertices: [[f64; 4]; 4] = std::array::from_fn(|i| [S[i][0], radii[i], 0.0, 0.0]);
+        in_order(&vertices, &[(3, [25.0, 30.0, 0.0, 5.0])])
+    }
+
+    #[test]
+    fn radii_below_the_axis() {
+        assert_eq!(listing(&with_radii([10.0, 10.0, -1.0, 0.0])), "refused 6 at 3\n");
+        assert_eq!(listing(&with_radii([10.0, -2.0, 0.0, -1.0])), "refused 6 at 2\n");
+        assert_eq!(listing(&with_radii([10.0, 10.0, 0.0, (-1e-9f64).next_down()])), "refused 6 at 4\n");
+        assert!(listing(&with_radii([10.0, 10.0, -1e-9, -0.0])).starts_with("section 4\n5 "));
+        assert_eq!(listing(&with_radii([-1.0, 10.0, 0.0, -2e6])), "refused 5 at 0\n");
+        assert_eq!(listing(&with_radii([-1.0, 10.0, 0.0, f64::NAN])), "refused 4 at 0\n");
+        // Chain order decides: 3 comes before 1.
+        let vertex = |next, radius| (next, 1, [0.0, radius, 0.0, 0.0]);
+        let low = store(&[(3, 0, [0.0; 4]), vertex(0, -1.0), vertex(1, 0.0), vertex(2, -1.0)]);
+        assert_eq!(listing(&low), "refused 6 at 3\n");
     }
 
     #[test]

@@ -70,6 +70,15 @@ impl Stores {
         if self.random.below(8) == 0 { 0.0 } else { self.coordinate().abs() }
     }
 
+    /// As above, and now and then below 0, about -1e-9 and farther.
+    fn vertex_radius(&mut self) -> f64 {
+        if self.random.below(16) > 0 {
+            return self.radius();
+        }
+        let about = self.random.near(-1e-9);
+        self.random.pick(&[about, -1e-9, -5e-10, -5e-324, -0.0, -1e-8, -1.0, -2e6])
+    }
+
     /// Vertices and bodies interleaved, in any order of records, with unreached ones between.
     pub fn store(&mut self) -> Vec<u8> {
         let count = match self.random.below(60) {
@@ -107,7 +116,7 @@ impl Stores {
 
     fn part(&mut self, share: usize) -> Fields {
         if self.random.below(8) < share {
-            return (0, 1, [self.coordinate(), self.radius(), f64::from_bits(self.random.bits()), f64::NAN]);
+            return (0, 1, [self.coordinate(), self.vertex_radius(), f64::from_bits(self.random.bits()), f64::NAN]);
         }
         if self.random.below(2) == 0 {
             let radius = if self.random.below(20) == 0 { -1.0 } else { self.radius() };
@@ -138,7 +147,10 @@ impl Stores {
                 }
                 4 => store.truncate(self.random.below(store.len() + 1)),
                 5 => store.extend(std::iter::repeat_n(self.random.bits() as u8, self.random.below(90))),
-                _ => store[k * RECORD + 8..k * RECORD + 16].copy_from_slice(&self.coordinate().to_le_bytes()),
+                _ => {
+                    let at = k * RECORD + 8 + 8 * self.random.below(4);
+                    store[at..at + 8].copy_from_slice(&self.coordinate().to_le_bytes());
+                }
             }
         }
         store

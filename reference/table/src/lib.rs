@@ -1,4 +1,5 @@
-//! Document 01's table of refusals, numbers 1 to 11, with request (vi)'s 18, and its builder rules, written from their text.
+//! Document 01's table of refusals, numbers 1 to 11, with request (vi)'s 18 and (xi)'s 6, and its builder rules, written from
+//! their text.
 //! Each call has one list of tests, written in the order in which it tests: the first that is true gives the number.
 
 mod builder;
@@ -39,24 +40,39 @@ fn numbers(given: &[&[f64]]) -> [Test; 2] {
     [(4, any(|x| !x.is_finite())), (5, any(|x| x.abs() > LIMIT))]
 }
 
+fn pairs(list: &[f64]) -> impl Iterator<Item = (f64, f64)> {
+    list.chunks_exact(2).map(|pair| (pair[0], pair[1]))
+}
+
+/// Whether 6 meets a vertex of this radius.
+pub fn below_axis(radius: f64) -> bool {
+    radius < -1e-9
+}
+
+/// 6 of a section or of a builder's points; no convex body is tested for it.
+fn radii(section: &[f64]) -> Test {
+    (6, pairs(section).any(|(_, radius)| below_axis(radius)))
+}
+
 /// `more` holds the clearance of a verdict, or nothing, here and below.
 pub fn point(section: &[f64], point: [f64; 3], more: &[f64]) -> Result<(), u32> {
-    first(&[&vertices(&[section]), &numbers(&[section, &point, more])])
+    first(&[&vertices(&[section]), &numbers(&[section, &point, more]), &[radii(section)]])
 }
 
 /// The body is x, y, z, radius.
 pub fn sphere(section: &[f64], body: [f64; 4], more: &[f64]) -> Result<(), u32> {
-    first(&[&vertices(&[section]), &numbers(&[section, &body, more]), &[(9, body[3] < 0.0)]])
+    first(&[&vertices(&[section]), &numbers(&[section, &body, more]), &[radii(section), (9, body[3] < 0.0)]])
 }
 
 /// The body is z0, z1, r0, r1.
 pub fn aabb(section: &[f64], body: [f64; 4], more: &[f64]) -> Result<(), u32> {
     let [z0, z1, r0, r1] = body;
-    first(&[&vertices(&[section]), &numbers(&[section, &body, more]), &[(10, z1 < z0 || r1 < r0)]])
+    let own = [radii(section), (10, z1 < z0 || r1 < r0)];
+    first(&[&vertices(&[section]), &numbers(&[section, &body, more]), &own])
 }
 
 pub fn convex(convex: &[f64], section: &[f64], more: &[f64]) -> Result<(), u32> {
-    first(&[&vertices(&[convex, section]), &numbers(&[convex, section, more])])
+    first(&[&vertices(&[convex, section]), &numbers(&[convex, section, more]), &[radii(section)]])
 }
 
 /// Request (vi)'s settings of the walk.
@@ -79,8 +95,8 @@ fn range(settings: Settings) -> Test {
 
 /// The body is ax, ay, az, bx, by, bz, radius. 18 comes right after 5, which does not look at the settings.
 pub fn cylinder(section: &[f64], body: [f64; 7], settings: Settings, more: &[f64]) -> Result<(), u32> {
-    let own = [(9, body[6] < 0.0), (11, axis(body).is_none())];
-    first(&[&vertices(&[section]), &numbers(&[section, &body, more]), &[range(settings)], &own])
+    let own = [range(settings), radii(section), (9, body[6] < 0.0), (11, axis(body).is_none())];
+    first(&[&vertices(&[section]), &numbers(&[section, &body, more]), &own])
 }
 
 /// The directions that the axis test tells apart: along the spindle, and across it along X or, by request (iv), Y.
@@ -175,6 +191,33 @@ mod tests {
         assert_eq!((with(0, 0.0), with(0, 2e6), with(0, f64::NAN)), (Err(18), Err(5), Err(4)));
         assert_eq!(cylinder(&S, along, bad, &[2e6]), Err(5));
         assert_eq!(cylinder(&S[..4], along, bad, &[]), Err(2));
+    }
+
+    #[test]
+    fn radii_below_the_axis() {
+        let with = |radius| [0.0, 10.0, 20.0, 10.0, 20.0, radius, 0.0, 0.0];
+        let (o, low) = ([0.0; 3], with(-1.0));
+        for taken in [-1e-9, (-1e-9f64).next_up(), -5e-324, -0.0] {
+            assert_eq!(point(&with(taken), o, &[]), Ok(()));
+        }
+        for refused in [(-1e-9f64).next_down(), -1e-8, -1.0, -1_048_576.0] {
+            assert_eq!(point(&with(refused), o, &[]), Err(6));
+        }
+        // A convex body is not met, nor is a box.
+        assert_eq!(convex(&low, &S, &[]), Ok(()));
+        assert_eq!(convex(&S, &low, &[]), Err(6));
+        assert_eq!(aabb(&S, [5.0, 6.0, -3.0, -2.0], &[]), Ok(()));
+        // After 4 and 5 of the body and of the clearance, and after 18; before 9, 10 and 11.
+        assert_eq!(point(&low, [f64::NAN, 0.0, 0.0], &[]), Err(4));
+        assert_eq!(convex(&[2e6; 6], &low, &[]), Err(5));
+        assert_eq!(sphere(&low, [0.0, 0.0, 0.0, -1.0], &[]), Err(6));
+        assert_eq!(sphere(&low, [0.0, 0.0, 0.0, -1.0], &[f64::NAN]), Err(4));
+        assert_eq!(aabb(&low, [5.0, 4.0, 0.0, 5.0], &[]), Err(6));
+        let skew = [0.0, 0.0, 0.0, 1.0, 0.0, 1.0, -1.0];
+        assert_eq!(cylinder(&low, skew, FINEST, &[]), Err(6));
+        assert_eq!(cylinder(&low, skew, Settings { most: 0, ..FINEST }, &[]), Err(18));
+        assert_eq!(point(&low[..7], o, &[]), Err(1));
+        assert_eq!(point(&with(-2e6), o, &[]), Err(5));
     }
 
     #[test]

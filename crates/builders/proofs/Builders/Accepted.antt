@@ -10,14 +10,14 @@ use lib.ListN.{length}
 use lib.Ieee.{Float}
 use borrow.Author.Tests.{lt-ltb, le-ltb, ne-eqb}
 use Rattle.profile.specs.Vertices.{count}
-use Rattle.profile.specs.Refusals.{Test, refusal, listTests}
+use Rattle.profile.specs.Refusals.{Test, refusal, anyBelowAxis, listTests}
 use Rattle.profile.specs.Replies.{value, turned-down, reply}
 use Rattle.profile.proofs.Each.{All, cons}
 use Rattle.profile.proofs.Refusals.Ordered.{Passes, refusal-append}
 use Rattle.profile.proofs.Refusals.Passed.{counted, taken}
 use Rattle.profile.proofs.Replies.{refused}
 use Rattle.builders.specs.Builder.{sectionOf, polygonOf}
-use Rattle.builders.specs.Kept.{told, anyBelowAxis, sectionOwn, polygonOwn, sectionAnswer, polygonAnswer}
+use Rattle.builders.specs.Kept.{told, sectionOwn, polygonOwn, sectionAnswer, polygonAnswer}
 use Rattle.builders.specs.Steps.{threeKept}
 use Rattle.builders.specs.declared.shapes.Kept.{Kept}
 use Rattle.builders.proofs.Builders.Kept.{three-answer, accepted}
@@ -61,20 +61,24 @@ module _ (s space : List Float) where
         rw (section-own, ← f, y, le-ltb (length space) (2 * (count s + 2)) (omega arith), q, c)
         (three-answer (sectionOf s) (section-whole s))
 
-  module _ {n : ℕ} (e : n ≡ refusal (listTests 3 256 s)) (z : n ≡ 0) where
+  module _ {n : ℕ} (e : n ≡ refusal (listTests 3 256 s)) (z : n ≡ 0) {t : Bool} (f : t ≡ anyBelowAxis s) where
     polygon-own : polygonAnswer s space ≡ reply (refusal (polygonOwn s space)) (length (polygonOf s))
     unfolding polygonAnswer
     polygon-own = by-own 3 256 s (polygonOwn s space) _ e z
 
-    pub polygon-small : length space < count s * 2 → turned-down 7 ≡ polygonAnswer s space
+    pub polygon-below : t ≡ true → turned-down 6 ≡ polygonAnswer s space
     unfolding refusal
-    polygon-small h = rw (polygon-own, lt-ltb (length space) (2 * count s) (omega arith))
+    polygon-below y = rw (polygon-own, ← f, y)
 
-    pub polygon-counted : count s * 2 ≤ length space → {k : ℕ} → k ≡ count (polygonOf s) → {r : Kept} → r ≡ threeKept k
-        → told r ≡ polygonAnswer s space
+    pub polygon-small : t ≡ false → length space < count s * 2 → turned-down 7 ≡ polygonAnswer s space
     unfolding refusal
-    polygon-counted h c q =
-        rw (polygon-own, le-ltb (length space) (2 * count s) (omega arith), q, c)
+    polygon-small y h = rw (polygon-own, ← f, y, lt-ltb (length space) (2 * count s) (omega arith))
+
+    pub polygon-counted : t ≡ false → count s * 2 ≤ length space → {k : ℕ} → k ≡ count (polygonOf s) → {r : Kept}
+        → r ≡ threeKept k → told r ≡ polygonAnswer s space
+    unfolding refusal
+    polygon-counted y h c q =
+        rw (polygon-own, ← f, y, le-ltb (length space) (2 * count s) (omega arith), q, c)
         (three-answer (polygonOf s) (polygon-whole s))
 
   -- what an accepted builder was given
@@ -100,4 +104,4 @@ module _ (s space : List Float) where
       (c .enough, c .few, room (p .rest-passes), k .1)
     where
       room : All Passes (polygonOwn s space) → 2 * count s ≤ length space
-      room (cons small kept) = nltb→le (length space) (2 * count s) small
+      room (cons below (cons small kept)) = nltb→le (length space) (2 * count s) small

@@ -11,8 +11,8 @@ use lib.Seq.{take-take}
 use lib.Ieee.{Float}
 use Rattle.arith.specs.F64.{𝟘}
 use Rattle.profile.specs.Vertices.{vertex, count, vertexAt}
-use Rattle.builders.specs.Builder.{samePoint, lastOf, keep, sectionPoints, sectionOf, polygonPoints, polygonOf}
-use Rattle.builders.specs.Steps.{pointAt, keptPoints, runOf, pushed, pushedSpace, frontKept}
+use Rattle.builders.specs.Builder.{samePoint, lastOf, keep, keptPoints, sectionOf, polygonOf}
+use Rattle.builders.specs.Steps.{pointAt, runOf, pushed, pushedSpace, frontKept}
 use Rattle.builders.specs.declared.builder.Run.{Run}
 use Rattle.profile.specs.declared.shapes.Vertex.{Vertex}
 use Rattle.builders.proofs.Builders.Keep.{Whole, next-keep, run-keep}
@@ -22,7 +22,7 @@ use Rattle.builders.proofs.Builders.Points.{points-whole, points-most, 
 -- a section's points, with the first closing point, and with both
 module _ (s : List Float) where
   abbrev all : List Float
-  all = keptPoints true s (count s)
+  all = keptPoints s (count s)
 
   abbrev down : Vertex
   down = vertex (lastOf all .z) 𝟘
@@ -31,11 +31,11 @@ module _ (s : List Float) where
   back = vertex (vertexAt all 0 .z) 𝟘
 
   closed : sectionOf s ≡ keep back (keep down all)
-  unfolding sectionOf sectionPoints keptPoints
+  unfolding sectionOf keptPoints
   closed = refl
 
   all-whole : Whole all
-  all-whole = points-whole true s (count s)
+  all-whole = points-whole s (count s)
 
   down-whole : Whole (keep down all)
   down-whole = next-keep all down all-whole .whole
@@ -45,28 +45,28 @@ module _ (s : List Float) where
 
   pub section-most : count (sectionOf s) ≤ count s + 2
   section-most =
-      let m = points-most true s (count s) in
+      let m = points-most s (count s) in
       let d = next-keep all down all-whole in
       let b = next-keep (keep down all) back down-whole in
       rw closed (omega arith)
 
   -- two pushes after all the points
   module _ (h : 2 ≤ count s) {b b₁ : Run} {first : Vertex} (e : b ≡ runOf all)
-      (e₁ : b₁ ≡ pushed (vertex (b .last .z) 𝟘) b) (f : first ≡ pointAt true s 0) where
+      (e₁ : b₁ ≡ pushed (vertex (b .last .z) 𝟘) b) (f : first ≡ pointAt s 0) where
     at-down : vertex (b .last .z) 𝟘 ≡ down
     at-down =
-        let p : b .last ≡ lastOf all = rw e (points-last true s (count s) (omega arith)) in
+        let p : b .last ≡ lastOf all = rw e (points-last s (count s) (omega arith)) in
         ap (λ (v : Vertex). vertex (v .z) 𝟘) p
 
     at-back : vertex (first .z) 𝟘 ≡ back
-    at-back = ap (λ (v : Vertex). vertex (v .z) 𝟘) (f ∙ sym (points-first true s (count s) (omega arith)))
+    at-back = ap (λ (v : Vertex). vertex (v .z) 𝟘) (f ∙ sym (points-first s (count s) (omega arith)))
 
     down-run : b₁ ≡ runOf (keep down all)
     down-run = e₁ ∙ rw (at-down, e) (run-keep all down all-whole)
 
     pub down-most : b₁ .count ≤ count s + 1
     down-most =
-        let m = points-most true s (count s) in
+        let m = points-most s (count s) in
         let d = next-keep all down all-whole in
         rw down-run (omega arith)
 
@@ -84,7 +84,7 @@ module _ (s : List Float) where
 -- a polygon's points, and those without a repeated closing vertex
 module _ (s : List Float) where
   abbrev points : List Float
-  points = keptPoints false s (count s)
+  points = keptPoints s (count s)
 
   abbrev part : Bool → List Float
   part t = cond t (take (length points - 2) points) points
@@ -93,11 +93,11 @@ module _ (s : List Float) where
   closes = ltb 1 (count points) && samePoint (vertexAt points 0) (lastOf points)
 
   opened : polygonOf s ≡ part closes
-  unfolding polygonOf polygonPoints keptPoints
+  unfolding polygonOf keptPoints
   opened = refl
 
   whole : Whole points
-  whole = points-whole false s (count s)
+  whole = points-whole s (count s)
 
   part-count : (t : Bool) → count (part t) ≡ cond t (count points - 1) (count points)
   part-count true = let e = whole in simp length-take (omega arith)
@@ -124,7 +124,7 @@ module _ (s : List Float) where
 
   pub polygon-most : count (polygonOf s) ≤ count s
   polygon-most =
-      let m = points-most false s (count s) in
+      let m = points-most s (count s) in
       let p = part-most closes in
       rw opened (omega arith)
 
@@ -132,7 +132,7 @@ module _ (s : List Float) where
       → frontKept limit points space ≡ frontKept limit (polygonOf s) space
   polygon-space limit space h = rw opened (part-space limit space closes (rw opened at h))
 
-  pub polygon-count : {b : Run} {first : Vertex} → 1 ≤ count s → b ≡ runOf points → first ≡ pointAt false s 0
+  pub polygon-count : {b : Run} {first : Vertex} → 1 ≤ count s → b ≡ runOf points → first ≡ pointAt s 0
       → count (polygonOf s) ≡ cond (ltb 1 (b .count) && samePoint first (b .last)) (b .count - 1) (b .count)
   polygon-count h e f =
-      rw (opened, f, e, points-last false s (count s) h, ← points-first false s (count s) h) (part-count closes)
+      rw (opened, f, e, points-last s (count s) h, ← points-first s (count s) h) (part-count closes)

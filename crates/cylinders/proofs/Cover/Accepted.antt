@@ -5,7 +5,7 @@ use mathlib.Core.Path.{_≡_}
 use lib.Dec.{T}
 use lib.Ieee.{Float}
 use Rattle.arith.specs.F64.{_≺_, 𝟘}
-use Rattle.profile.specs.Refusals.{Test, refusal}
+use Rattle.profile.specs.Refusals.{Test, refusal, axisTests}
 use Rattle.profile.specs.Steps.{numbered}
 use Rattle.profile.proofs.Refusals.Ordered.{Passes, all-pass}
 use Rattle.profile.proofs.Refusals.Passed.{taken}
@@ -41,7 +41,7 @@ in-limit (cons ax (cons ay (cons az (cons bx (cons by (cons bz (cons r h))))))) 
 
 -- whatever else is given, and whatever the settings
 pub accepted : (s : List Float) (c : Cylinder) (extra : List Float) (settings : List Test)
-    → T (numbered (settings ++ cylinderOwn (c .radius) (axis c))) → refusal (cylinderTests s c extra settings) ≡ 0 → Accepted s c
+    → T (numbered (settings ++ (axisTests s ++ cylinderOwn (c .radius) (axis c)))) → refusal (cylinderTests s c extra settings) ≡ 0 → Accepted s c
 accepted s c extra settings h e = go (A .own-passes)
   where
     own : List Test
@@ -57,5 +57,5 @@ accepted s c extra settings h e = go (A .own-passes)
 pub settings-accepted : (s : List Float) (c : Cylinder) (t : Settings) → refusal (cylinderTests s c [] (settingsTests t)) ≡ 0
     → SettingsTaken t
 settings-accepted s c t e =
-    settings-taken t (all-pass (all-first (settingsTests t) (cylinderOwn (c .radius) (axis c))
+    settings-taken t (all-pass (all-first (settingsTests t) (axisTests s ++ cylinderOwn (c .radius) (axis c))
     (taken 3 256 (s ∷ []) (s ++ (cylinderNumbers c ++ [])) _ tt e .rest-passes)))

@@ -11,7 +11,7 @@ use lib.Ieee.Scale.{finite}
 use Rattle.arith.specs.F64.{_≺_, _≼_, 𝟙, e-9, e-15}
 use Rattle.roots.proofs.Rounding.KeyOrder.{le→key, lt→key}
 use Rattle.arith.proofs.Laws.Sizes.{Number, finite-number, held-finite}
-use Rattle.profile.specs.Refusals.{Test, refusal}
+use Rattle.profile.specs.Refusals.{Test, refusal, axisTests}
 use Rattle.profile.specs.Steps.{numbered}
 use Rattle.settings.specs.declared.shapes.Settings.{Settings}
 use Rattle.settings.proofs.Taken.{SettingsTaken}
@@ -61,7 +61,7 @@ tolerance t taken f =
 -- The seven numbers of c, and the tolerance, are f64: the call knows it of its own parameters. The settings t are taken, whether
 -- the call tests them or not.
 module _ (s : List Float) (c : Cylinder) (extra : List Float) (settings : List Test)
-    (h : T (numbered (settings ++ cylinderOwn (c .radius) (axis c)))) (f : Each IsF64 (cylinderNumbers c))
+    (h : T (numbered (settings ++ (axisTests s ++ cylinderOwn (c .radius) (axis c))))) (f : Each IsF64 (cylinderNumbers c))
     (e : refusal (cylinderTests s c extra settings) ≡ 0) (t : Settings) (taken : SettingsTaken t) (g : IsF64 (t .tolerance)) where
   module _ (a : Axis) where
     abbrev band : RadialBand

@@ -95,10 +95,12 @@ module _ (a b : List Test) (h : T (numbered a)) {n : ℕ} (own : ℕ) (e : n ≡
 pub by-rest : (a b : List Test) → T (numbered a) → {n m : ℕ} → n ≡ refusal a → n ≡ 0 → m ≡ refusal b → m ≡ refusal (a ++ b)
 by-rest a b h e z f = rw (refusal-append a b h, ← e, z, f)
 
--- the tests a, then those of the settings, then the body's own
-pub own-after : (a settings b : List Test) → T (numbered a) → T (numbered settings) → {r n own : ℕ}
-    → r ≡ orElse (refusal a) (orElse n own) → n ≡ refusal settings → own ≡ refusal b → r ≡ refusal (a ++ (settings ++ b))
-own-after a settings b h k e g f = rw (e, g, f, refusal-append a (settings ++ b) h, refusal-append settings b k)
+-- the tests a, then those of the settings, then the section's own, then the body's
+pub own-after : (a settings axis b : List Test) → T (numbered a) → T (numbered settings) → T (numbered axis) → {r n own : ℕ}
+    → r ≡ orElse (refusal a) (orElse n (orElse (refusal axis) own)) → n ≡ refusal settings → own ≡ refusal b
+    → r ≡ refusal (a ++ (settings ++ (axis ++ b)))
+own-after a settings axis b h k j e g f =
+    rw (e, g, f, refusal-append a (settings ++ (axis ++ b)) h, refusal-append settings (axis ++ b) k, refusal-append axis b j)
 
 -- a call without settings
 pub no-settings : 0 ≡ refusal []

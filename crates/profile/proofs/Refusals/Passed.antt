@@ -84,9 +84,9 @@ pub section-long : (s given : List Float) (rest : List Test) → T (numbered res
 section-long s given rest h e = counted (taken 3 256 (s ∷ []) given rest h e .shapes) .enough
 
 -- two lists
-pub convex-long : (c s given : List Float) → refusal (shapeTests 3 256 (c ∷ s ∷ []) ++ numberTests given) ≡ 0
-    → (3 ≤ count c) × (3 ≤ count s)
-convex-long c s given e = go (taken 3 256 (c ∷ s ∷ []) given [] tt e .shapes)
+pub convex-long : (c s given : List Float) (rest : List Test) → T (numbered rest)
+    → refusal ((shapeTests 3 256 (c ∷ s ∷ []) ++ numberTests given) ++ rest) ≡ 0 → (3 ≤ count c) × (3 ≤ count s)
+convex-long c s given rest h e = go (taken 3 256 (c ∷ s ∷ []) given rest h e .shapes)
   where
     go : All (ShapeTaken 3 256) (c ∷ s ∷ []) → (3 ≤ count c) × (3 ≤ count s)
     go (cons h t) = (nltb→le (count c) 3 (h .long), counted t .enough)

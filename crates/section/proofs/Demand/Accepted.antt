@@ -6,7 +6,7 @@ use native.Mathlib.Omega.{arith}
 use lib.Dec.{T, nltb→le}
 use lib.Ieee.{Float, nan}
 use Rattle.arith.specs.Num.{isFinite}
-use Rattle.profile.specs.Refusals.{Test, refusal, besideTests}
+use Rattle.profile.specs.Refusals.{Test, refusal, axisTests, besideTests}
 use Rattle.profile.specs.Vertices.{count}
 use Rattle.profile.proofs.Each.{All, all-at, all-first, all-map, all-rest, cons, nil}
 use Rattle.profile.specs.Steps.{numbered}
@@ -34,17 +34,17 @@ pub record SectionTaken (s numbers : List Float) (own : List Test) : Type 0 wher
   pub body : All (AtMost 20) numbers
   pub own-passes : All Passes own
 
-pub section-taken : (s numbers extra : List Float) (settings own : List Test) → T (numbered (settings ++ own))
+pub section-taken : (s numbers extra : List Float) (settings own : List Test) → T (numbered (settings ++ (axisTests s ++ own)))
     → refusal (besideTests s numbers extra settings own) ≡ 0 → SectionTaken s numbers own
-section-taken s numbers extra settings own h e = go (t .shapes)
+section-taken s numbers extra settings own h e = go (t .shapes) (all-rest settings (axisTests s ++ own) (t .rest-passes))
   where
-    t : Taken 3 256 (s ∷ []) (s ++ (numbers ++ extra)) (settings ++ own)
-    t = taken 3 256 (s ∷ []) (s ++ (numbers ++ extra)) (settings ++ own) h e
+    t : Taken 3 256 (s ∷ []) (s ++ (numbers ++ extra)) (settings ++ (axisTests s ++ own))
+    t = taken 3 256 (s ∷ []) (s ++ (numbers ++ extra)) (settings ++ (axisTests s ++ own)) h e
 
-    go : All (ShapeTaken 3 256) (s ∷ []) → SectionTaken s numbers own
-    go (cons k nil) =
+    go : All (ShapeTaken 3 256) (s ∷ []) → All Passes (axisTests s ++ own) → SectionTaken s numbers own
+    go (cons k nil) (cons below rest) =
         record {
           section = taken-vertices k (all-first s (numbers ++ extra) (t .numbers));
           body = all-map taken-atMost (all-first numbers extra (all-rest s (numbers ++ extra) (t .numbers)));
-          own-passes = all-rest settings own (t .rest-passes);
+          own-passes = rest;
         }

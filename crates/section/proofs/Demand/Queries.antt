@@ -10,7 +10,7 @@ use Rattle.boxes.specs.Boxes.{boxDistance}
 use Rattle.convex.specs.Convex.{convexDistance}
 use Rattle.section.specs.Demand.{Bounded, BoundedOffAxis, AtMost}
 use Rattle.points.specs.Points.{meridian, pointDistance, sphereDistance}
-use Rattle.profile.specs.Refusals.{boxNumbers, boxTests, boundsTests, convexTests, pointNumbers, pointTests, radiusTests}
+use Rattle.profile.specs.Refusals.{axisTests, boxNumbers, boxTests, boundsTests, convexTests, pointNumbers, pointTests, radiusTests}
 use Rattle.profile.specs.Refusals.{Test, refusal, sphereNumbers, sphereTests}
 use Rattle.profile.specs.Steps.{numbered}
 use Rattle.profile.specs.Replies.{OfValue}
@@ -65,13 +65,13 @@ point-demand s p =
 
 -- whatever else is given, and whatever the settings
 module _ (s extra : List Float) (settings : List Test) where
-  pub sphere-bounded : (b : Sphere) → T (numbered (settings ++ radiusTests (b .radius)))
+  pub sphere-bounded : (b : Sphere) → T (numbered (settings ++ (axisTests s ++ radiusTests (b .radius))))
       → refusal (sphereTests s b extra settings) ≡ 0 → BoundedOffAxis s (sphereDistance s b)
   sphere-bounded b h e =
       let A = section-taken s (sphereNumbers b) extra settings (radiusTests (b .radius)) h e in
       hit-boundedOffAxis (A .section) (sphere-atMost (A .section) (vec3-atMost (A .body)) (radius-atMost (A .body))) tt
 
-  pub box-bounded : (x : Aabb) → T (numbered (settings ++ boundsTests x)) → refusal (boxTests s x extra settings) ≡ 0
+  pub box-bounded : (x : Aabb) → T (numbered (settings ++ (axisTests s ++ boundsTests x))) → refusal (boxTests s x extra settings) ≡ 0
       → Bounded (boxDistance s x)
   box-bounded x h e =
       let A = section-taken s (boxNumbers x) extra settings (boundsTests x) h e in
@@ -90,7 +90,7 @@ pub convex-demand : (c s : List Float) → OfValue Bounded (convexAnswer c s)
 unfolding convexAnswer
 convex-demand c s =
     of-reply Bounded (refusal (convexTests c s [])) (convexDistance c s)
-    (λ e. let t = taken 3 256 (c ∷ s ∷ []) (c ++ (s ++ [])) [] tt e in
+    (λ e. let t = taken 3 256 (c ∷ s ∷ []) (c ++ (s ++ [])) (axisTests s) tt e in
     both (t .shapes) (all-first c (s ++ []) (t .numbers)) (all-first s [] (all-rest c (s ++ []) (t .numbers))))
   where
     both : All (ShapeTaken 3 256) (c ∷ s ∷ []) → All NumberTaken c → All NumberTaken s → Bounded (convexDistance c s)

@@ -140,7 +140,7 @@ pub fn convex(random: &mut Random, style: Style, section: &[Vertex]) -> Vec<Vert
             let count = sections::count(random, 3, 12);
             (0..count).map(|_| (z + gap(random), r + gap(random))).collect()
         }
-        _ => sections::section(random, style, 40),
+        _ => sections::polygon(random, style, 40),
     };
     let body = body.into_iter().map(|(z, r)| (limited(z), limited(r))).collect();
     sections::rotated(random, body)

@@ -28,6 +28,10 @@ pub fn spoil(random: &mut Random, query: &mut Query) {
             _ => bad_body(random, query),
         }
     }
+    // Beside the fault above, of which some come before 6 and some after it, or alone.
+    if random.chance(1, 3) {
+        below_axis(random, query);
+    }
     if query.kind == Kind::SetCylinder && random.chance(1, 4) {
         bad_setting(random, query);
     }
@@ -82,6 +86,22 @@ fn bad_number(random: &mut Random, query: &mut Query) {
     all.enumerate().filter(|(i, _)| *i == place).for_each(|(_, x)| *x = bad);
 }
 
+/// A vertex of the section below -1e-9, or the whole section on the other side of the spindle.
+fn below_axis(random: &mut Random, query: &mut Query) {
+    let Some(section) = query.lists.last_mut() else { return };
+    let count = section.len() / 2;
+    if count == 0 {
+        return;
+    }
+    if random.chance(1, 8) {
+        section.iter_mut().skip(1).step_by(2).for_each(|radius| *radius = -*radius);
+        return;
+    }
+    let threshold = random.near(-1e-9);
+    section[2 * random.below(count) + 1] =
+        random.pick(&[threshold, -1.1e-9, -2e-9, -1e-8, -1.0, -50.0, -1_048_576.0, -2e6, f64::MIN]);
+}
+
 /// A setting one step outside its range, or far out.
 fn bad_setting(random: &mut Random, query: &mut Query) {
     let tolerances = [1e-9f64.next_down(), 1f64.next_up(), f64::NAN, f64::INFINITY, f64::NEG_INFINITY, 0.0, -0.0];
@@ -98,6 +118,10 @@ fn bad_setting(random: &mut Random, query: &mut Query) {
 /// What each kind refuses by itself.
 fn bad_body(random: &mut Random, query: &mut Query) {
     match query.kind {
+        Kind::Sphere | Kind::VerdictSphere | Kind::Box | Kind::VerdictBox if random.chance(1, 4) => {
+            below_axis(random, query);
+        }
+        Kind::Cylinder | Kind::VerdictCylinder | Kind::SetCylinder if random.chance(1, 4) => below_axis(random, query),
         Kind::Sphere | Kind::VerdictSphere => {
             let radius = random.pick(&[-1.0, -5e-324, -1e-9, -3e6]);
             query.numbers[3] = radius;
@@ -123,15 +147,7 @@ fn bad_body(random: &mut Random, query: &mut Query) {
                 list[i] = list[i % 2];
             }
         }
-        Kind::Section => {
-            let list = &mut query.lists[0];
-            let vertex = random.below((list.len() / 2).max(1));
-            if let Some(radius) = list.get_mut(2 * vertex + 1) {
-                *radius = random.pick(&[-1.0, -1.1e-9, -1e-8, -50.0]);
-            }
-        }
-        Kind::Sqrt | Kind::Hypot | Kind::Point | Kind::Convex | Kind::Polygon | Kind::VerdictConvex => {
-            bad_number(random, query);
-        }
+        Kind::Section | Kind::Polygon | Kind::Point | Kind::Convex | Kind::VerdictConvex => below_axis(random, query),
+        Kind::Sqrt | Kind::Hypot => {}
     }
 }

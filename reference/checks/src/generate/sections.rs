@@ -21,8 +21,23 @@ pub fn count(random: &mut Random, least: usize, most: usize) -> usize {
     least + random.below(top.min(most) - least + 1)
 }
 
-/// A section as given to a query, of at most `most` vertices.
+/// A section as given to a query, of at most `most` vertices; 6 lets its radii pass.
 pub fn section(random: &mut Random, style: Style, most: usize) -> Vec<Vertex> {
+    let mut vertices = polygon(random, style, most);
+    lift(random, &mut vertices);
+    vertices
+}
+
+/// A radius below -1e-9 on the other side of the spindle, or from -1e-9 up to 0.
+fn lift(random: &mut Random, vertices: &mut [Vertex]) {
+    for vertex in vertices.iter_mut().filter(|vertex| table::below_axis(vertex.1)) {
+        let between = random.between(-1e-9, 0.0);
+        vertex.1 = random.pick(&[-vertex.1, -vertex.1, -1e-9, (-1e-9f64).next_up(), between, -1e-12, -5e-324, -0.0]);
+    }
+}
+
+/// Any polygon of at most `most` vertices, also below the spindle.
+pub fn polygon(random: &mut Random, style: Style, most: usize) -> Vec<Vertex> {
     let mut vertices = if random.chance(5, 8) { turned(random, style, most) } else { scattered(random, style, most) };
     if random.chance(1, 4) {
         spice(random, style, &mut vertices);
@@ -101,15 +116,12 @@ pub fn points(random: &mut Random, style: Style) -> Vec<f64> {
     let count = count(random, 2, 254);
     let mut points = profile(random, style, count);
     repeat(random, &mut points);
-    for point in &mut points {
-        if point.1 < -1e-9 {
-            point.1 = random.pick(&[-point.1, -1e-9, -5e-324, -0.0]);
-        }
-    }
+    lift(random, &mut points);
+    near_axis(random, &mut points);
     list(&points)
 }
 
-/// Vertices for `build_polygon`, some of them repeated, also the first at the end.
+/// Vertices for `build_polygon`: radii not below -1e-9, some of them repeated, also the first at the end.
 pub fn polygon_points(random: &mut Random, style: Style) -> Vec<f64> {
     let mut vertices = scattered(random, style, 256);
     repeat(random, &mut vertices);
@@ -117,7 +129,25 @@ pub fn polygon_points(random: &mut Random, style: Style) -> Vec<f64> {
         let last = vertices.len() - 1;
         vertices[last] = moved(random, vertices[0]);
     }
+    lift(random, &mut vertices);
+    near_axis(random, &mut vertices);
     list(&vertices)
+}
+
+/// In one list of eight, some points repeat the z of the one before, or the last that of the first, and both radii lie from
+/// -1e-9 up to 0, or at 0: raised, they are the same point.
+fn near_axis(random: &mut Random, points: &mut [Vertex]) {
+    if !random.chance(1, 8) {
+        return;
+    }
+    for i in 0..points.len() {
+        let next = (i + 1) % points.len();
+        if random.chance(1, 3) {
+            let mut radius = || random.pick(&[-1e-9, -5e-10, -2e-12, -1e-12, -5e-13, -5e-324, -0.0, 0.0, 5e-13, 2e-12]);
+            (points[i].1, points[next].1) = (radius(), radius());
+            points[next].0 = points[i].0;
+        }
+    }
 }
 
 fn repeat(random: &mut Random, points: &mut [Vertex]) {

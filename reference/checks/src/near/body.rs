@@ -49,7 +49,7 @@ fn maybe_mirrored(random: &mut Random, section: &mut [Vertex], bounds: [f64; 4])
     if random.chance(1, 2) {
         return bounds;
     }
-    mirrored(section, true, false);
+    mirrored(section);
     [-bounds[1], -bounds[0], bounds[2], bounds[3]]
 }
 
@@ -84,9 +84,7 @@ fn vertex_inside(random: &mut Random, kind: Kind) -> Near {
     let mut bounds = [-far, far, -far, far];
     let side = random.below(4);
     bounds[side] = if side == 0 || side == 2 { -number } else { number };
-    let mut section = bar(random);
-    let below = random.chance(1, 4);
-    mirrored(&mut section, false, below);
+    let section = bar(random);
     Near { query: body(random, kind, section, bounds), number, threshold: 1e-9 }
 }
 

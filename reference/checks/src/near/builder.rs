@@ -5,7 +5,6 @@ use crate::query::{Kind, Query};
 use crate::random::Random;
 
 pub const SECTION: &[(&str, Make)] = &[
-    ("radius -1e-9", below_axis),
     ("radius 0", axis),
     ("repeated point, z 1e-12 apart", repeated_z),
     ("repeated point, radius 1e-12 apart", repeated_radius),
@@ -14,6 +13,7 @@ pub const SECTION: &[(&str, Make)] = &[
 ];
 
 pub const POLYGON: &[(&str, Make)] = &[
+    ("radius 0", axis),
     ("repeated point, z 1e-12 apart", repeated_z),
     ("repeated point, radius 1e-12 apart", repeated_radius),
     ("closing vertex, z 1e-12 apart", closing_vertex),
@@ -30,13 +30,6 @@ fn query(random: &mut Random, kind: Kind, points: Vec<f64>) -> Query {
     Query::builder(kind, points, space)
 }
 
-fn below_axis(random: &mut Random, kind: Kind) -> Near {
-    let (mut points, number) = (points(random), random.near(-1e-9));
-    let vertex = random.below(points.len() / 2);
-    points[2 * vertex + 1] = number;
-    Near { query: query(random, kind, points), number, threshold: -1e-9 }
-}
-
 fn axis(random: &mut Random, kind: Kind) -> Near {
     let (mut points, number) = (points(random), random.near(0.0));
     let vertex = random.below(points.len() / 2);
@@ -47,7 +40,10 @@ fn axis(random: &mut Random, kind: Kind) -> Near {
 /// Two points whose coordinate `which` is 0 in one and 1e-12 in the other; the other coordinate agrees, or nearly.
 fn apart(random: &mut Random, points: &mut [f64], first: usize, second: usize, which: usize) -> f64 {
     let number = random.near(1e-12);
-    let (a, b) = random.pick(&[(0.0, number), (number, 0.0), (number * 0.5, -number * 0.5)]);
+    // A radius below 0 is raised to 0 before it is compared.
+    let below = random.pick(&[-1e-9, -5e-10, -5e-324]);
+    let both = if which == 0 { (number * 0.5, -number * 0.5) } else { (below, number) };
+    let (a, b) = random.pick(&[(0.0, number), (number, 0.0), both]);
     points[2 * first + which] = a;
     points[2 * second + which] = b;
     points[2 * second + 1 - which] = points[2 * first + 1 - which];

@@ -55,8 +55,8 @@ pub fn thresholds(kind: Kind) -> Vec<Threshold> {
         }
         Kind::SetCylinder => settings::SETTINGS.to_vec(),
     };
-    let limit: (&'static str, Make) = ("limit 1,048,576", limit);
-    makes.into_iter().chain([limit]).map(|(name, make)| Threshold { kind, name, make }).collect()
+    let all: [(&'static str, Make); 2] = [("limit 1,048,576", limit), ("section's radius -1e-9", below_axis)];
+    makes.into_iter().chain(all).map(|(name, make)| Threshold { kind, name, make }).collect()
 }
 
 /// Any number of a query at the limit.
@@ -69,6 +69,16 @@ fn limit(random: &mut Random, kind: Kind) -> Near {
     let all = query.lists.iter_mut().flatten().chain(&mut query.numbers);
     all.enumerate().filter(|(i, _)| *i == place).for_each(|(_, x)| *x = signed);
     Near { query, number, threshold: table::LIMIT }
+}
+
+/// A radius of the section at -1e-9.
+fn below_axis(random: &mut Random, kind: Kind) -> Near {
+    let mut query = generate::drawn(random, kind);
+    let number = random.near(-1e-9);
+    let section = query.lists.last_mut().expect("every kind with thresholds has a section");
+    let vertex = random.below(section.len() / 2);
+    section[2 * vertex + 1] = number;
+    Near { query, number, threshold: -1e-9 }
 }
 
 /// A clearance beside the distance.
@@ -109,12 +119,9 @@ fn bar(random: &mut Random) -> Vec<(f64, f64)> {
     bar
 }
 
-/// The same bar seen from the other side of z = 0, or from below the spindle.
-fn mirrored(section: &mut [(f64, f64)], z: bool, radius: bool) {
-    for vertex in section {
-        vertex.0 = if z { -vertex.0 } else { vertex.0 };
-        vertex.1 = if radius { -vertex.1 } else { vertex.1 };
-    }
+/// The same bar seen from the other side of z = 0.
+fn mirrored(section: &mut [(f64, f64)]) {
+    section.iter_mut().for_each(|vertex| vertex.0 = -vertex.0);
 }
 
 /// The list of a section, from any vertex on and either way round.

@@ -29,8 +29,9 @@ fn at(random: &mut Random, kind: Kind, section: Vec<(f64, f64)>, z: f64, radius:
 fn boundary(random: &mut Random, kind: Kind) -> Near {
     let number = random.near(1e-12);
     let mut section = bar(random);
-    let mirror = random.chance(1, 2);
-    mirrored(&mut section, mirror, false);
+    if random.chance(1, 2) {
+        mirrored(&mut section);
+    }
     let (z, radius) = (random.sign(number), random.pick(&[0.25, 0.5, 0.75, 0.3]));
     Near { query: at(random, kind, section, z, radius), number, threshold: 1e-12 }
 }
@@ -47,21 +48,42 @@ fn axis_edge(random: &mut Random, kind: Kind) -> Near {
     Near { query: at(random, kind, section, z, radius), number, threshold: 1e-9 }
 }
 
-/// Above a bar that hangs below the spindle: only the centreline rule can put the point inside.
+/// A bar of a radius below 1e-8: at about 1e-8 only the centreline rule can put a point inside.
+fn thin(random: &mut Random, section: &mut [(f64, f64)]) {
+    let radius = random.pick(&[2e-9, 5e-9, 9e-9]);
+    section.iter_mut().filter(|vertex| vertex.1 > 0.0).for_each(|vertex| vertex.1 = radius);
+}
+
+/// Above a thin bar, or inside a thick one.
 fn centreline(random: &mut Random, kind: Kind) -> Near {
     let number = random.near(1e-8);
     let mut section = bar(random);
-    let below = random.chance(3, 4);
-    mirrored(&mut section, false, below);
+    if random.chance(3, 4) {
+        thin(random, &mut section);
+    }
     let z = section[section.len() - 1].0 * random.pick(&[0.125, 0.5, 0.75]);
     Near { query: at(random, kind, section, z, number), number, threshold: 1e-8 }
 }
 
-/// As above, 1e-9 from an end of the axis edge.
+/// 1e-9 from an end of the axis edge: above a thin bar, or under an axis edge that lies 5e-10 off the spindle, where only
+/// the centreline rule can put the point inside; or in a thick bar.
 fn centreline_ends(random: &mut Random, kind: Kind) -> Near {
     let mut section = bar(random);
-    let (below, left) = (random.chance(3, 4), random.chance(1, 2));
-    mirrored(&mut section, left, below);
+    let (last, left) = (section.len() - 1, random.chance(1, 2));
+    let radius = match random.below(4) {
+        0 => random.pick(&[0.0, 1e-9, 1e-8]),
+        1 => {
+            thin(random, &mut section);
+            1e-8
+        }
+        _ => {
+            (section[0].1, section[last].1) = (5e-10, 5e-10);
+            random.pick(&[0.0, 1e-10])
+        }
+    };
+    if left {
+        mirrored(&mut section);
+    }
     let length = section[section.len() - 1].0;
     let threshold = match random.below(3) {
         0 if left => length + 1e-9,
@@ -70,7 +92,6 @@ fn centreline_ends(random: &mut Random, kind: Kind) -> Near {
         _ => 1e-9,
     };
     let number = random.near(threshold);
-    let radius = random.pick(&[0.0, 1e-9, 1e-8]);
     Near { query: at(random, kind, section, number, radius), number, threshold }
 }
 

@@ -2,7 +2,7 @@
 use borrow.Author.Needs.{needs}
 use mathlib.Core.List.{_++_}
 use mathlib.Core.Path.{sym, _∙_}
-use Rattle.profile.specs.Refusals.{boundsTests}
+use Rattle.profile.specs.Refusals.{axisTests, boundsTests}
 use Rattle.profile.proofs.Refusals.Passed.{section-long}
 use Rattle.profile.proofs.Replies.{answered, refused}
 use Rattle.settings.specs.Settings.{settingsTests}
@@ -33,7 +33,7 @@ returns c =
 box-distance-requires : tie.Need-box-distance-requires
 box-distance-requires c κs =
     let a = c .before .before .before .before .before .args in
-    section-long _ _ (settingsTests (a .settings) ++ boundsTests _) tt
+    section-long _ _ (settingsTests (a .settings) ++ (axisTests _ ++ boundsTests _)) tt
     (sym (c .before .box-refusal .ensures (settingsTests (a .settings)) tt (c .before .before .settings-refusal .ensures))
     ∙ c .if1 .left)
 

@@ -2,7 +2,7 @@
 use borrow.Author.Needs.{needs}
 use mathlib.Core.List.{_++_}
 use mathlib.Core.Path.{sym, _∙_}
-use Rattle.profile.specs.Refusals.{radiusTests}
+use Rattle.profile.specs.Refusals.{axisTests, radiusTests}
 use Rattle.profile.proofs.Refusals.Passed.{section-long}
 use Rattle.profile.proofs.Replies.{answered, refused}
 use Rattle.settings.specs.Settings.{settingsTests}
@@ -32,7 +32,7 @@ returns c =
 sphere-distance-requires : tie.Need-sphere-distance-requires
 sphere-distance-requires c κs =
     let a = c .before .before .before .before .before .args in
-    section-long _ _ (settingsTests (a .settings) ++ radiusTests _) tt
+    section-long _ _ (settingsTests (a .settings) ++ (axisTests _ ++ radiusTests _)) tt
     (sym (c .before .sphere-refusal .ensures (settingsTests (a .settings)) tt (c .before .before .settings-refusal .ensures))
     ∙ c .if1 .left)
 

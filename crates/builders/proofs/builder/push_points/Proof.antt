@@ -1,23 +1,22 @@
 -- `builders::builder::push_points` meets its contract: after k points, run and space are those of what is kept of them.
---
 use Prim.Native.Nat.{_≤_, _-_}
 use native.Mathlib.Omega.{arith}
 use mathlib.Core.Path.{_≡_, refl}
 use lib.Seq.{take-nil}
 use borrow.Author.Needs.{needs}
 use Rattle.profile.specs.Vertices.{count, upto}
-use Rattle.builders.specs.Builder.{filled}
-use Rattle.builders.specs.Steps.{keptPoints, runOf, frontKept}
+use Rattle.builders.specs.Builder.{keptPoints, filled}
+use Rattle.builders.specs.Steps.{runOf, frontKept}
 use Rattle.builders.proofs.Builders.Points.{count-most, same-long, run-turned, space-turned}
 use Rattle.builders.proofs.builder.push_points.Statement.{statement}
 use Rattle.builders.proofs.builder.push_points.Tie as tie
 
 abbrev Inv-loop : tie.InvT-loop
-Inv-loop points raise space₀ limit n run₀ k₀ space run k =
-    (k ≤ n) × (run ≡ runOf (keptPoints raise points k)) × (space ≡ frontKept limit (keptPoints raise points k) space₀)
+Inv-loop points space₀ limit n run₀ k₀ space run k =
+    (k ≤ n) × (run ≡ runOf (keptPoints points k)) × (space ≡ frontKept limit (keptPoints points k) space₀)
 
 abbrev μ-loop : tie.MeasureT-loop
-μ-loop points raise space₀ limit n run₀ k₀ space run k = n - k
+μ-loop points space₀ limit n run₀ k₀ space run k = n - k
 
 loop-holds : tie.Need-loop-holds Inv-loop μ-loop
 unfolding keptPoints upto filled
@@ -29,8 +28,8 @@ point-at-requires c κs = search needs
 push-dedup-requires : tie.Need-push-dedup-requires Inv-loop μ-loop
 push-dedup-requires c κs =
     let d = c .before .before .before in
-    let most = count-most _ _ _ (d .loop .inv .1) in
-    let same = same-long _ _ _ (d .loop .inv .1) _ _ (d .before .before .before .pre .1) (d .loop .inv .2) in
+    let most = count-most _ _ (d .loop .inv .1) in
+    let same = same-long _ _ (d .loop .inv .1) _ _ (d .before .before .before .pre .1) (d .loop .inv .2) in
     (omega arith, omega arith)
 
 add-k : tie.Need-add-k Inv-loop μ-loop
@@ -45,13 +44,13 @@ loop-again c =
     let w = c .before .before .before .point-at .ensures in
     let pushed = c .before .before .push-dedup .ensures in (
       search needs,
-      run-turned _ _ _ (d .loop .inv .1) w (pushed .0),
-      space-turned _ _ _ (d .loop .inv .1) _ _ (d .before .before .before .pre .1) (d .loop .inv .2) w (pushed .1),
+      run-turned _ _ (d .loop .inv .1) w (pushed .0),
+      space-turned _ _ (d .loop .inv .1) _ _ (d .before .before .before .pre .1) (d .loop .inv .2) w (pushed .1),
     )
 
 same-length : tie.Need-same-length Inv-loop μ-loop
 same-length c =
-    let d = c .before in same-long _ _ _ (d .loop .inv .1) _ _ (d .before .before .before .pre .1) (d .loop .inv .2)
+    let d = c .before in same-long _ _ (d .loop .inv .1) _ _ (d .before .before .before .pre .1) (d .loop .inv .2)
 
 returns : tie.Need-returns Inv-loop μ-loop
 returns c =

@@ -22,7 +22,7 @@ push-points-requires c κs = search needs
 
 push-dedup-requires : tie.Need-push-dedup-requires
 push-dedup-requires c κs =
-    let most = count-most _ _ _ (c .before .before .before .before .push-points .ensures .0) in (search needs, omega arith)
+    let most = count-most _ _ (c .before .before .before .before .push-points .ensures .0) in (search needs, omega arith)
 
 push-dedup-requires-2 : tie.Need-push-dedup-requires-2
 push-dedup-requires-2 c κs =

@@ -1,6 +1,6 @@
 -- `cylinders::refusal::cylinder_refusal` meets its contract: the numbers of its own parameter are f64.
 use borrow.Author.Needs.{needs}
-use Rattle.profile.specs.Refusals.{givenTests}
+use Rattle.profile.specs.Refusals.{givenTests, axisTests}
 use Rattle.profile.proofs.Refusals.Ordered.{own-after}
 use Rattle.cylinders.proofs.Given.{f64s}
 use Rattle.cylinders.proofs.refusal.cylinder_refusal.Statement.{statement}
@@ -24,7 +24,7 @@ returns c =
     record {
       number = λ ts h e.
           rw (← start .pre)
-          (own-after (givenTests _ _) ts _ tt h (c .body-refusal .ensures) e (c .before .own-refusal .ensures));
+          (own-after (givenTests _ _) ts (axisTests _) _ tt h tt (c .body-refusal .ensures) e (c .before .own-refusal .ensures));
       f64s = f64s _ (a .0 .1) (a .1 .0 .1) (a .1 .1 .0 .1) (b .0 .1) (b .1 .0 .1) (b .1 .1 .0 .1) (g .1 .1 .0 .1);
     }
 

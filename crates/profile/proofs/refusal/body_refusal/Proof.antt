@@ -26,11 +26,18 @@ returns-3 c =
     ∙ by-own _ _ tt _ (c .before .before .before .before .shape-refusal .ensures) (c .before .before .before .if1 .left)
     (c .before .before .numbers-refusal .ensures) (c .before .if2 .left)
 
+axis-refusal-requires : tie.Need-axis-refusal-requires
+axis-refusal-requires c κs = search needs
+
 returns-4 : tie.Need-returns-4
 returns-4 c =
-    or-else-second _ _ (c .if3 .left)
-    ∙ by-own _ _ tt _ (c .before .before .before .before .shape-refusal .ensures) (c .before .before .before .if1 .left)
-    (c .before .before .numbers-refusal .ensures) (c .before .if2 .left)
+    let d = c .before in
+    c .axis-refusal .ensures
+    ∙ or-else-second _ _ (d .if3 .left)
+    ∙ by-own _ _ tt _ (d .before .before .before .before .shape-refusal .ensures) (d .before .before .before .if1 .left)
+    (d .before .before .numbers-refusal .ensures) (d .before .if2 .left)
 
 pub body-refusal-spec : {M : Type 1} → statement M
-body-refusal-spec = tie.close (tie.spec shape-refusal-requires returns numbers-refusal-requires returns-2 returns-3 returns-4)
+body-refusal-spec =
+    tie.close
+    (tie.spec shape-refusal-requires returns numbers-refusal-requires returns-2 returns-3 axis-refusal-requires returns-4)

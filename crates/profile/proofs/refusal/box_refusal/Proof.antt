@@ -1,6 +1,6 @@
 -- `profile::refusal::box_refusal` meets its contract.
 use borrow.Author.Needs.{needs}
-use Rattle.profile.specs.Refusals.{givenTests}
+use Rattle.profile.specs.Refusals.{givenTests, axisTests}
 use Rattle.profile.proofs.Refusals.Ordered.{own-after}
 use Rattle.profile.proofs.refusal.box_refusal.Statement.{statement}
 use Rattle.profile.proofs.refusal.box_refusal.Tie as tie
@@ -15,7 +15,7 @@ body-refusal-requires : tie.Need-body-refusal-requires
 body-refusal-requires c κs = search needs
 
 returns : tie.Need-returns
-returns c ts h e = own-after (givenTests _ _) ts _ tt h (c .body-refusal .ensures) e (c .before .bounds-refusal .ensures)
+returns c ts h e = own-after (givenTests _ _) ts (axisTests _) _ tt h tt (c .body-refusal .ensures) e (c .before .bounds-refusal .ensures)
 
 pub box-refusal-spec : {M : Type 1} → statement M
 box-refusal-spec = tie.close (tie.spec slice-aggregate-body-refusal bounds-refusal-requires body-refusal-requires returns)

@@ -1,8 +1,8 @@
 -- `profile::refusal::convex_refusal` meets its contract.
 use borrow.Author.Needs.{needs}
-use mathlib.Core.Path.{_∙_}
-use Rattle.profile.specs.Refusals.{numberTests}
-use Rattle.profile.proofs.Refusals.Ordered.{by-first, by-rest, or-else-none}
+use mathlib.Core.Path.{_∙_, sym}
+use Rattle.profile.specs.Refusals.{refusal, givenTests, numberTests, axisTests}
+use Rattle.profile.proofs.Refusals.Ordered.{by-first, by-second, by-own, or-else-none, refusal-append}
 use Rattle.profile.proofs.refusal.convex_refusal.Statement.{statement}
 use Rattle.profile.proofs.refusal.convex_refusal.Tie as tie
 
@@ -12,12 +12,30 @@ shapes-refusal-requires c κs = search needs
 numbers-refusal-requires : tie.Need-numbers-refusal-requires
 numbers-refusal-requires c κs = search needs
 
+axis-refusal-requires : tie.Need-axis-refusal-requires
+axis-refusal-requires c κs = search needs
+
 returns : tie.Need-returns
-returns c = by-first _ (numberTests _) tt 0 (c .before .shapes-refusal .ensures) (c .if1 .taken) ∙ or-else-none _
+returns c =
+    by-first _ (numberTests _) tt (refusal (axisTests _)) (c .before .shapes-refusal .ensures) (c .if1 .taken)
+    ∙ sym (refusal-append (givenTests _ _) (axisTests _) tt)
 
 returns-2 : tie.Need-returns-2
 returns-2 c =
-    by-rest _ (numberTests _) tt (c .before .before .shapes-refusal .ensures) (c .before .if1 .left) (c .numbers-refusal .ensures)
+    by-second _ _ tt (refusal (axisTests _)) (c .before .before .before .shapes-refusal .ensures) (c .before .before .if1 .left)
+    (c .before .numbers-refusal .ensures) (c .if2 .taken)
+    ∙ sym (refusal-append (givenTests _ _) (axisTests _) tt)
+
+returns-3 : tie.Need-returns-3
+returns-3 c =
+    let d = c .before in
+    c .axis-refusal .ensures
+    ∙ or-else-none _
+    ∙ by-own _ _ tt _ (d .before .before .before .shapes-refusal .ensures) (d .before .before .if1 .left)
+    (d .before .numbers-refusal .ensures) (d .if2 .left)
+    ∙ sym (refusal-append (givenTests _ _) (axisTests _) tt)
 
 pub convex-refusal-spec : {M : Type 1} → statement M
-convex-refusal-spec = tie.close (tie.spec shapes-refusal-requires returns numbers-refusal-requires returns-2)
+convex-refusal-spec =
+    tie.close
+    (tie.spec shapes-refusal-requires returns numbers-refusal-requires returns-2 axis-refusal-requires returns-3)

@@ -1,7 +1,8 @@
 -- `profile::refusal::point_refusal` meets its contract.
 use borrow.Author.Needs.{needs}
-use mathlib.Core.Path.{_∙_}
-use Rattle.profile.proofs.Refusals.Ordered.{or-else-none}
+use mathlib.Core.List.{[]}
+use Rattle.profile.specs.Refusals.{givenTests, axisTests}
+use Rattle.profile.proofs.Refusals.Ordered.{no-settings, own-after}
 use Rattle.profile.proofs.refusal.point_refusal.Statement.{statement}
 use Rattle.profile.proofs.refusal.point_refusal.Tie as tie
 
@@ -15,7 +16,8 @@ body-refusal-requires : tie.Need-body-refusal-requires
 body-refusal-requires c κs = search needs
 
 returns : tie.Need-returns
-returns c = c .body-refusal .ensures ∙ or-else-none _
+returns c =
+    own-after (givenTests _ _) [] (axisTests _) [] tt tt tt (c .body-refusal .ensures) no-settings no-settings
 
 pub point-refusal-spec : {M : Type 1} → statement M
 point-refusal-spec = tie.close (tie.spec slice-aggregate-body-refusal slice-aggregate-body-refusal-2 body-refusal-requires returns)

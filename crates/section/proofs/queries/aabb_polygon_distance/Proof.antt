@@ -1,8 +1,8 @@
 -- `section::queries::aabb_polygon_distance` meets its contract: the number or the hit, and demand 1 of it.
 use borrow.Author.Needs.{needs}
-use mathlib.Core.List.{[]}
+use mathlib.Core.List.{[], _++_}
 use mathlib.Core.Path.{sym, _∙_}
-use Rattle.profile.specs.Refusals.{boundsTests}
+use Rattle.profile.specs.Refusals.{axisTests, boundsTests}
 use Rattle.profile.proofs.Refusals.Ordered.{no-settings}
 use Rattle.profile.proofs.Refusals.Passed.{section-long}
 use Rattle.profile.proofs.Replies.{answered, refused}
@@ -23,7 +23,7 @@ unfolding boxAnswer
 returns c = answered Bounded (box-demand _ _) (rw (← c .before .box-refusal .ensures [] tt no-settings) (refused _ _ (c .if1 .taken)))
 
 box-distance-requires : tie.Need-box-distance-requires
-box-distance-requires c κs = section-long _ _ (boundsTests _) tt (sym (c .before .box-refusal .ensures [] tt no-settings) ∙ c .if1 .left)
+box-distance-requires c κs = section-long _ _ (axisTests _ ++ boundsTests _) tt (sym (c .before .box-refusal .ensures [] tt no-settings) ∙ c .if1 .left)
 
 returns-2 : tie.Need-returns-2
 unfolding boxAnswer

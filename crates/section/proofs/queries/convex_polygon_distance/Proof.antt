@@ -1,6 +1,7 @@
 -- `section::queries::convex_polygon_distance` meets its contract: the number or the hit, and demand 1 of it.
 use borrow.Author.Needs.{needs}
 use mathlib.Core.Path.{sym, _∙_}
+use Rattle.profile.specs.Refusals.{axisTests}
 use Rattle.profile.proofs.Refusals.Passed.{convex-long}
 use Rattle.profile.proofs.Replies.{answered, refused}
 use Rattle.section.specs.Answers.{convexAnswer}
@@ -20,7 +21,7 @@ unfolding convexAnswer
 returns c = answered Bounded (convex-demand _ _) (rw (← c .before .convex-refusal .ensures) (refused _ _ (c .if1 .taken)))
 
 convex-distance-requires : tie.Need-convex-distance-requires
-convex-distance-requires c κs = convex-long _ _ _ (sym (c .before .convex-refusal .ensures) ∙ c .if1 .left)
+convex-distance-requires c κs = convex-long _ _ _ (axisTests _) tt (sym (c .before .convex-refusal .ensures) ∙ c .if1 .left)
 
 returns-2 : tie.Need-returns-2
 unfolding convexAnswer

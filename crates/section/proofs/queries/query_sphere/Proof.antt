@@ -1,8 +1,8 @@
 -- `section::queries::query_sphere` meets its contract: the number or the hit, and demand 1 of it.
 use borrow.Author.Needs.{needs}
-use mathlib.Core.List.{[]}
+use mathlib.Core.List.{[], _++_}
 use mathlib.Core.Path.{sym, _∙_}
-use Rattle.profile.specs.Refusals.{radiusTests}
+use Rattle.profile.specs.Refusals.{axisTests, radiusTests}
 use Rattle.profile.proofs.Refusals.Ordered.{no-settings}
 use Rattle.profile.proofs.Refusals.Passed.{section-long}
 use Rattle.profile.proofs.Replies.{answered, refused}
@@ -23,7 +23,7 @@ unfolding sphereAnswer
 returns c = answered (BoundedOffAxis _) (sphere-demand _ _) (rw (← c .before .sphere-refusal .ensures [] tt no-settings) (refused _ _ (c .if1 .taken)))
 
 sphere-distance-requires : tie.Need-sphere-distance-requires
-sphere-distance-requires c κs = section-long _ _ (radiusTests _) tt (sym (c .before .sphere-refusal .ensures [] tt no-settings) ∙ c .if1 .left)
+sphere-distance-requires c κs = section-long _ _ (axisTests _ ++ radiusTests _) tt (sym (c .before .sphere-refusal .ensures [] tt no-settings) ∙ c .if1 .left)
 
 returns-2 : tie.Need-returns-2
 unfolding sphereAnswer

@@ -1,7 +1,7 @@
 -- `section::queries::signed_distance` meets its contract: the number or the hit, and demand 1 of it.
 use borrow.Author.Needs.{needs}
 use mathlib.Core.Path.{sym, _∙_}
-use mathlib.Core.List.{[]}
+use Rattle.profile.specs.Refusals.{axisTests}
 use Rattle.profile.proofs.Refusals.Passed.{section-long}
 use Rattle.profile.proofs.Replies.{answered, refused}
 use Rattle.section.specs.Answers.{pointAnswer}
@@ -22,7 +22,7 @@ meridian-requires c κs = search needs
 
 signed-distance-2d-requires : tie.Need-signed-distance-2d-requires
 signed-distance-2d-requires c κs =
-    section-long _ _ [] tt (sym (c .before .before .point-refusal .ensures) ∙ c .before .if1 .left)
+    section-long _ _ (axisTests _) tt (sym (c .before .before .point-refusal .ensures) ∙ c .before .if1 .left)
 
 returns-2 : tie.Need-returns-2
 unfolding pointAnswer

@@ -1,9 +1,10 @@
 -- `store::kinds::kinds_answer` meets its contract: what is left to look at gives the answer.
 use Prim.Native.Nat.{_-_, _≤_}
-use mathlib.Core.Path.{_≡_, refl, sym, _∙_}
+use mathlib.Core.Bool.{not}
+use mathlib.Core.Path.{_≡_, refl, sym, ap, _∙_}
 use lib.ListN.{length, drop}
 use Rattle.store.specs.Kinds.{kindsAnswer}
-use Rattle.store.proofs.Lists.{kinds-more, kinds-found, kinds-end}
+use Rattle.store.proofs.Lists.{first-more, first-found, first-end}
 use borrow.Author.Needs.{needs}
 use Rattle.store.proofs.kinds.kinds_answer.Statement.{statement}
 use Rattle.store.proofs.kinds.kinds_answer.Tie as tie
@@ -38,8 +39,7 @@ loop-again c =
     let c₃ = c₁ .before .before in
     let c₄ = c₃ .before in (
       search needs,
-      c₄ .loop .inv .1 ∙ kinds-more _ _ _ (c₃ .loop-test .taken) (sym (c₁ .right-kind .ensures) ∙ c .if1
-          .taken),
+      c₄ .loop .inv .1 ∙ first-more _ _ _ _ (c₃ .loop-test .taken) (ap not (sym (c₁ .right-kind .ensures) ∙ c .if1 .taken)),
     )
 
 returns : tie.Need-returns Inv-loop μ-loop
@@ -47,10 +47,11 @@ returns c =
     let c₁ = c .before in
     let c₃ = c₁ .before .before in
     let c₄ = c₃ .before in
-    sym (c₄ .loop .inv .1 ∙ kinds-found _ _ _ (c₃ .loop-test .taken) (sym (c₁ .right-kind .ensures) ∙ c .if1 .left))
+    sym (c₄ .loop .inv .1 ∙ first-found _ _ _ _ (c₃ .loop-test .taken)
+    (ap not (sym (c₁ .right-kind .ensures) ∙ c .if1 .left)))
 
 returns-2 : tie.Need-returns-2 Inv-loop μ-loop
-returns-2 c = sym (c .before .loop .inv .1 ∙ kinds-end _ _ _ (c .loop-test .left))
+returns-2 c = sym (c .before .loop .inv .1 ∙ first-end _ _ _ _ (c .loop-test .left))
 
 pub kinds-answer-spec : {M : Type 1} → statement M
 kinds-answer-spec =

@@ -1,8 +1,8 @@
 -- `verdicts::verdicts::verdict_box` meets its contract.
 use borrow.Author.Needs.{needs}
-use mathlib.Core.List.{[]}
+use mathlib.Core.List.{[], _++_}
 use mathlib.Core.Path.{sym, _∙_}
-use Rattle.profile.specs.Refusals.{boundsTests}
+use Rattle.profile.specs.Refusals.{axisTests, boundsTests}
 use Rattle.profile.proofs.Refusals.Ordered.{no-settings}
 use Rattle.profile.proofs.Refusals.Passed.{section-long}
 use Rattle.profile.proofs.Replies.{refused}
@@ -21,7 +21,7 @@ unfolding bodyVerdict
 returns c = rw (← c .before .box-refusal .ensures [] tt no-settings) (refused _ _ (c .if1 .taken))
 
 box-distance-requires : tie.Need-box-distance-requires
-box-distance-requires c κs = section-long _ _ (boundsTests _) tt (sym (c .before .box-refusal .ensures [] tt no-settings) ∙ c .if1 .left)
+box-distance-requires c κs = section-long _ _ (axisTests _ ++ boundsTests _) tt (sym (c .before .box-refusal .ensures [] tt no-settings) ∙ c .if1 .left)
 
 judged-requires : tie.Need-judged-requires
 judged-requires c κs = search needs

@@ -1,6 +1,7 @@
 -- `verdicts::verdicts::verdict_convex` meets its contract.
 use borrow.Author.Needs.{needs}
 use mathlib.Core.Path.{sym, _∙_}
+use Rattle.profile.specs.Refusals.{axisTests}
 use Rattle.profile.proofs.Refusals.Passed.{convex-long}
 use Rattle.profile.proofs.Replies.{refused}
 use Rattle.verdicts.specs.Verdicts.{convexVerdict}
@@ -18,7 +19,7 @@ unfolding convexVerdict
 returns c = rw (← c .before .convex-refusal .ensures) (refused _ _ (c .if1 .taken))
 
 convex-distance-requires : tie.Need-convex-distance-requires
-convex-distance-requires c κs = convex-long _ _ _ (sym (c .before .convex-refusal .ensures) ∙ c .if1 .left)
+convex-distance-requires c κs = convex-long _ _ _ (axisTests _) tt (sym (c .before .convex-refusal .ensures) ∙ c .if1 .left)
 
 judged-requires : tie.Need-judged-requires
 judged-requires c κs = search needs

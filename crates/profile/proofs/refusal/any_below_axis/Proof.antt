@@ -1,4 +1,4 @@
--- `builders::builder::any_below_axis` meets its contract.
+-- `profile::refusal::any_below_axis` meets its contract.
 use Prim.Native.Nat.{_≤_, _-_}
 use native.Mathlib.Omega.{arith}
 use mathlib.Core.Bool.{false}
@@ -6,16 +6,17 @@ use mathlib.Core.Path.{_≡_, refl}
 use lib.Ieee.{neg}
 use borrow.Author.Needs.{needs}
 use Rattle.arith.specs.F64.{_≺_, e-9}
 use Rattle.profile.specs.Vertices.{vertexAt, any}
+use Rattle.profile.specs.Refusals.{anyBelowAxis}
 use Rattle.profile.proofs.Fold.{any-more, any-end, any-at}
-use Rattle.builders.proofs.builder.any_below_axis.Statement.{statement}
-use Rattle.builders.proofs.builder.any_below_axis.Tie as tie
+use Rattle.profile.proofs.refusal.any_below_axis.Statement.{statement}
+use Rattle.profile.proofs.refusal.any_below_axis.Tie as tie
 
 abbrev Inv-loop : tie.InvT-loop
-Inv-loop points n k₀ k = (k ≤ n) × (any (λ j. vertexAt points j .r ≺ neg e-9) k ≡ false)
+Inv-loop l n k₀ k = (k ≤ n) × (any (λ j. vertexAt l j .r ≺ neg e-9) k ≡ false)
 
 abbrev μ-loop : tie.MeasureT-loop
-μ-loop points n k₀ k = n - k
+μ-loop l n k₀ k = n - k
 
 loop-holds : tie.Need-loop-holds Inv-loop μ-loop
 unfolding any
@@ -34,6 +35,7 @@ shared-slice-read-if1 : tie.Need-shared-slice-read-if1 Inv-loop μ-loop
 shared-slice-read-if1 c = search needs
 
 returns : tie.Need-returns Inv-loop μ-loop
+unfolding anyBelowAxis
 returns c = any-at _ _ _ (c .before .before .loop-test .taken) refl (c .if1 .taken)
 
 add-k : tie.Need-add-k Inv-loop μ-loop
@@ -46,6 +48,7 @@ loop-again : tie.Need-loop-again Inv-loop μ-loop
 loop-again c = (search needs, any-more _ _ (c .before .before .before .loop .inv .1) refl (c .if1 .left))
 
 returns-2 : tie.Need-returns-2 Inv-loop μ-loop
+unfolding anyBelowAxis
 returns-2 c = any-end _ _ (c .before .loop .inv .1) _ (omega arith)
 
 pub any-below-axis-spec : {M : Type 1} → statement M
