@@ -5,9 +5,9 @@
 static uint32_t ask(double tolerance, uint32_t most, uint32_t intervals) {
     const double section[8] = {0, 10, 20, 10, 20, 0, 0, 0};
     double distance, z, radius;
-    uint32_t boxes, waiting, cut;
+    uint32_t edge, boxes, waiting, cut;
     uint32_t refused = jorghipa_cylinder(section, 8, 12, 0, 10, 30, 0, 10, 2, tolerance, most, intervals, &distance, &z,
-                                         &radius, &boxes, &waiting, &cut);
+                                         &radius, &edge, &boxes, &waiting, &cut);
     if (refused == 0) printf("distance %g, %u boxes, %s\n", distance, boxes, cut ? "cut" : "uncut");
     return refused;
 }

@@ -7,6 +7,7 @@ int main(void) {
     const jorghipa_bar bar = {15, 0, 0, 15, 0, 30, 2};
     jorghipa_cylinder_reply reply = jorghipa_cylinder_of(section, 4, bar);
     if (reply.number != 0) return (int)reply.number;
-    printf("distance %g, nearest to z %g, radius %g\n", reply.distance, reply.witness_z, reply.witness_radius);
+    printf("distance %g, nearest to z %g, radius %g, edge %u\n", reply.distance, reply.witness_z, reply.witness_radius,
+           reply.edge);
     return 0;
 }

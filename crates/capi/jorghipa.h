@@ -4,8 +4,9 @@
  * numbers z, radius, z, radius, .. and the count of NUMBERS (twice the vertices); the last vertex joins the first.
  * A convex body is given likewise. Every coordinate, bound, radius and clearance has magnitude at most 1,048,576.
  *
- * A distance is negative inside, 0 on contact. Its witness is a point (z, radius) of the section. Beside a section
- * nowhere over 1e-9 from the axis, a point or a sphere is at +infinity with the first vertex as witness.
+ * A distance is negative inside, 0 on contact. Its witness is a point (z, radius) of the section, and *edge the number of
+ * the edge that supplied it: edge k starts at vertex k, counted from 0. Beside a section nowhere over 1e-9 from the axis, a
+ * point or a sphere is at +infinity with the first vertex as witness, and edge 0.
  *
  * Each call returns 0, or the number of the first test that applies, and then changes nothing that it was lent. The tests,
  * in their order; each call makes those that it names, each over all lists and numbers that it is given:
@@ -40,19 +41,19 @@ double jorghipa_hypot(double a, double b);
 
 /* Distance of the point (x, y, z) from the section; z is the spindle's axis. Numbers 1 to 6. */
 uint32_t jorghipa_point(const double *section, size_t section_count, double x, double y, double z,
-                        double *distance, double *witness_z, double *witness_radius);
+                        double *distance, double *witness_z, double *witness_radius, uint32_t *edge);
 
 /* Distance of a sphere about (x, y, z). Numbers 1 to 6, 9. */
 uint32_t jorghipa_sphere(const double *section, size_t section_count, double x, double y, double z, double radius,
-                         double *distance, double *witness_z, double *witness_radius);
+                         double *distance, double *witness_z, double *witness_radius, uint32_t *edge);
 
 /* Distance of the box z0..z1, r0..r1 in (z, radius). Numbers 1 to 6, 10. */
 uint32_t jorghipa_box(const double *section, size_t section_count, double z0, double z1, double r0, double r1,
-                      double *distance, double *witness_z, double *witness_radius);
+                      double *distance, double *witness_z, double *witness_radius, uint32_t *edge);
 
 /* Distance of a convex polygon in (z, radius), which may lie below the axis. Numbers 1 to 5, over both lists, and 6. */
 uint32_t jorghipa_convex(const double *convex, size_t convex_count, const double *section, size_t section_count,
-                         double *distance, double *witness_z, double *witness_radius);
+                         double *distance, double *witness_z, double *witness_radius, uint32_t *edge);
 
 /* Builds a section from 2 to 254 points of a half-profile: drops a point within 1e-12 of the last kept one, raises
  * a radius in [-1e-9, 0) to 0, closes to the axis. Kept numbers fill the front of space, the rest stays as it was;
@@ -82,8 +83,8 @@ uint32_t jorghipa_build_polygon(const double *points, size_t points_count, doubl
  * Along the spindle, and at radius at most 1e-15, one box is measured at every setting. */
 uint32_t jorghipa_cylinder(const double *section, size_t section_count, double ax, double ay, double az, double bx,
                            double by, double bz, double radius, double tolerance, uint32_t most, uint32_t intervals,
-                           double *distance, double *witness_z, double *witness_radius, uint32_t *boxes,
-                           uint32_t *waiting, uint32_t *cut);
+                           double *distance, double *witness_z, double *witness_radius, uint32_t *edge,
+                           uint32_t *boxes, uint32_t *waiting, uint32_t *cut);
 
 /* *collision is 1 exactly when distance + 1e-9 < clearance, else 0. Numbers of the query without 18; 4 and 5 for the
  * clearance. A cylinder is measured at the finest settings. */

@@ -2,7 +2,8 @@
  * answer as a record.
  *
  * A section is a pointer to 3 to 256 vertices and their count; the last joins the first. All lengths are mm, each of
- * magnitude at most 1,048,576. A distance is negative inside, 0 on contact; its witness is a point of the section.
+ * magnitude at most 1,048,576. A distance is negative inside, 0 on contact; its witness is a point of the section, and edge
+ * the number of the edge that supplied it: edge k starts at vertex k, counted from 0.
  *
  * The number of a reply is 0, or the lowest that applies of jorghipa.h's table, and then every other field is 0. A count
  * of vertices cannot be odd, so number 1 is never given; nor is 18, since these calls keep the finest settings.
@@ -44,6 +45,7 @@ typedef struct {
 
 typedef struct {
     double distance, witness_z, witness_radius;
+    uint32_t edge;
     uint32_t number;
 } jorghipa_reply;
 
@@ -51,6 +53,7 @@ typedef struct {
  * stopped at 8,192 boxes with a piece still due, and then the distance is the least of the boxes'. */
 typedef struct {
     double distance, witness_z, witness_radius;
+    uint32_t edge;
     size_t boxes, waiting;
     uint32_t number;
     bool cut;

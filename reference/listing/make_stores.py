@@ -120,6 +120,16 @@ STORES = {
     "mirrored": in_order(vertices([(z, -r) for z, r in S]) + [box(25, 30, 0, 5)]),
     # only vertices are met: a box and the ignored numbers may lie below the axis
     "box_below": in_order([(1, (z, r, -5, -5)) for z, r in S] + [box(5, 6, -3, -2), sphere(-3, -4, 30, 0)]),
+    # S from its axis edge on, with vertices that come twice; bodies that touch a corner or hold vertices
+    "edges": in_order(
+        vertices([(20, 0), (0, 0), (0, 10), (0, 10), (20, 10), (20, 10)]) + BODIES
+        + [sphere(14, 0, 23, 1), box(20, 25, 10, 15), box(-5, 26, -5, 16), box(16, 30, 9, 12), box(5, 15, -4, -2)]
+    ),
+    # every body is nearest to the last edge, which has two digits: the longest listing
+    "longest": in_order(
+        vertices([(k, 0) for k in range(10)] + [(10, 5)]) + [sphere(5 + k / 32, 0, 0, 1) for k in range(500)]
+    ),
+    "edge_255": in_order(vertices([(k, 0) for k in range(255)] + [(255, 5)]) + [sphere(20, 0, 100, 1), box(1, 2, -3, -2)]),
     "bytes_1": bytes(1),
     "bytes_20481": bytes(20481),
     "bytes_20521": bytes(20521),

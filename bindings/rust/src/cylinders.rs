@@ -38,9 +38,9 @@ impl Default for Settings {
 
 /// A hit, the boxes that were measured, the most pieces that waited, and whether the walk was cut short.
 ///
-/// A cylinder along the spindle is one box. Across it the cylinder is walked in pieces, and the witness is that of the
+/// A cylinder along the spindle is one box. Across it the cylinder is walked in pieces, and witness and edge are those of the
 /// best distance seen. A walk is cut where a piece is still due after the most boxes of its settings: then the distance is
-/// the least of the boxes', and the witness still that of the best seen.
+/// the least of the boxes', and witness and edge still those of the best seen.
 #[derive(Clone, Copy, Debug, PartialEq)]
 pub struct CylinderHit {
     pub hit: Hit,
@@ -69,9 +69,9 @@ pub fn cylinder(section: &[f64], cylinder: Cylinder, settings: Settings) -> Resu
     let (mut boxes, mut waiting, mut cut) = (0, 0, 0);
     let (list, count, counts) = (section.as_ptr(), section.len(), (&mut boxes, &mut waiting, &mut cut));
     // SAFETY: the slice is valid for its length, and the places are distinct.
-    let hit = distances::hit(|d, wz, wr| unsafe {
+    let hit = distances::hit(|d, wz, wr, edge| unsafe {
         raw::jorghipa_cylinder(
-            list, count, a.x, a.y, a.z, b.x, b.y, b.z, radius, tolerance, most, intervals, d, wz, wr, counts.0,
+            list, count, a.x, a.y, a.z, b.x, b.y, b.z, radius, tolerance, most, intervals, d, wz, wr, edge, counts.0,
             counts.1, counts.2,
         )
     })?;

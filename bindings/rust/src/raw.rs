@@ -5,19 +5,19 @@
 unsafe extern "C" {
     pub fn jorghipa_point(
         section: *const f64, section_count: usize, x: f64, y: f64, z: f64,
-        distance: *mut f64, witness_z: *mut f64, witness_radius: *mut f64,
+        distance: *mut f64, witness_z: *mut f64, witness_radius: *mut f64, edge: *mut u32,
     ) -> u32;
     pub fn jorghipa_sphere(
         section: *const f64, section_count: usize, x: f64, y: f64, z: f64, radius: f64,
-        distance: *mut f64, witness_z: *mut f64, witness_radius: *mut f64,
+        distance: *mut f64, witness_z: *mut f64, witness_radius: *mut f64, edge: *mut u32,
     ) -> u32;
     pub fn jorghipa_box(
         section: *const f64, section_count: usize, z0: f64, z1: f64, r0: f64, r1: f64,
-        distance: *mut f64, witness_z: *mut f64, witness_radius: *mut f64,
+        distance: *mut f64, witness_z: *mut f64, witness_radius: *mut f64, edge: *mut u32,
     ) -> u32;
     pub fn jorghipa_convex(
         convex: *const f64, convex_count: usize, section: *const f64, section_count: usize,
-        distance: *mut f64, witness_z: *mut f64, witness_radius: *mut f64,
+        distance: *mut f64, witness_z: *mut f64, witness_radius: *mut f64, edge: *mut u32,
     ) -> u32;
     pub fn jorghipa_build_section(
         points: *const f64, points_count: usize, space: *mut f64, space_count: usize, kept: *mut usize,
@@ -28,7 +28,7 @@ unsafe extern "C" {
     pub fn jorghipa_cylinder(
         section: *const f64, section_count: usize, ax: f64, ay: f64, az: f64, bx: f64, by: f64, bz: f64, radius: f64,
         tolerance: f64, most: u32, intervals: u32, distance: *mut f64, witness_z: *mut f64, witness_radius: *mut f64,
-        boxes: *mut u32, waiting: *mut u32, cut: *mut u32,
+        edge: *mut u32, boxes: *mut u32, waiting: *mut u32, cut: *mut u32,
     ) -> u32;
     pub fn jorghipa_verdict_sphere(
         section: *const f64, section_count: usize, x: f64, y: f64, z: f64, radius: f64, clearance: f64,
@@ -100,6 +100,7 @@ mod records {
         pub distance: f64,
         pub witness_z: f64,
         pub witness_radius: f64,
+        pub edge: u32,
         pub number: u32,
     }
 
@@ -108,6 +109,7 @@ mod records {
         pub distance: f64,
         pub witness_z: f64,
         pub witness_radius: f64,
+        pub edge: u32,
         pub boxes: usize,
         pub waiting: usize,
         pub number: u32,

@@ -5,7 +5,8 @@ use crate::{Aabb, Cylinder, CylinderHit, Hit, Point, Refusal, Sphere, raw, refus
 
 fn hit(reply: raw::Reply) -> Result<Hit, Refusal> {
     accepted(reply.number)?;
-    Ok(Hit { distance: reply.distance, witness_z: reply.witness_z, witness_radius: reply.witness_radius })
+    let raw::Reply { distance, witness_z, witness_radius, edge, .. } = reply;
+    Ok(Hit { distance, witness_z, witness_radius, edge })
 }
 
 /// Distance of a point, the section as vertex records. Refusals 2 to 6.
@@ -34,7 +35,8 @@ pub fn cylinder_of(section: &[Vertex], cylinder: Cylinder) -> Result<CylinderHit
     let bar = raw::Bar { ax: a.x, ay: a.y, az: a.z, bx: b.x, by: b.y, bz: b.z, radius };
     let reply = unsafe { raw::jorghipa_cylinder_of(section.as_ptr(), section.len(), bar) };
     accepted(reply.number)?;
-    let hit = Hit { distance: reply.distance, witness_z: reply.witness_z, witness_radius: reply.witness_radius };
+    let raw::CylinderReply { distance, witness_z, witness_radius, edge, boxes, waiting, cut, .. } = reply;
+    let hit = Hit { distance, witness_z, witness_radius, edge };
     let count = |n: usize| u32::try_from(n).expect("at most 8,192");
-    Ok(CylinderHit { hit, boxes: count(reply.boxes), waiting: count(reply.waiting), cut: reply.cut })
+    Ok(CylinderHit { hit, boxes: count(boxes), waiting: count(waiting), cut })
 }

@@ -8,8 +8,8 @@ fn at(x: f64, y: f64, z: f64) -> Point {
     Point { x, y, z }
 }
 
-fn hit(distance: f64, witness_z: f64, witness_radius: f64) -> Hit {
-    Hit { distance, witness_z, witness_radius }
+fn hit(distance: f64, witness_z: f64, witness_radius: f64, edge: u32) -> Hit {
+    Hit { distance, witness_z, witness_radius, edge }
 }
 
 fn bounds(z0: f64, z1: f64, r0: f64, r1: f64) -> Aabb {
@@ -22,21 +22,27 @@ fn bar(a: Point, b: Point, radius: f64) -> Cylinder {
 
 #[test]
 fn readings() {
-    assert_eq!(point(&S, at(0.0, 0.0, 10.0)), Ok(hit(-10.0, 10.0, 10.0)));
-    assert_eq!(point(&S, at(3.0, 4.0, 30.0)), Ok(hit(10.0, 20.0, 5.0)));
-    assert_eq!(point(&[0.0, 0.0, 20.0, 0.0, 0.0, 0.0], at(1.0, 2.0, 3.0)), Ok(hit(f64::INFINITY, 0.0, 0.0)));
-    assert_eq!(sphere(&S, Sphere { center: at(0.0, 0.0, 30.0), radius: 4.0 }), Ok(hit(6.0, 20.0, 0.0)));
-    assert_eq!(aabb(&S, bounds(18.0, 30.0, 0.0, 5.0)), Ok(hit(-2.0, 20.0, 0.0)));
-    assert_eq!(aabb(&S, bounds(-5.0, 25.0, 5.0, 15.0)), Ok(hit(-1e-8, 20.0, 10.0)));
+    assert_eq!(point(&S, at(0.0, 0.0, 10.0)), Ok(hit(-10.0, 10.0, 10.0, 0)));
+    assert_eq!(point(&S, at(3.0, 4.0, 30.0)), Ok(hit(10.0, 20.0, 5.0, 1)));
+    assert_eq!(point(&[0.0, 0.0, 20.0, 0.0, 0.0, 0.0], at(1.0, 2.0, 3.0)), Ok(hit(f64::INFINITY, 0.0, 0.0, 0)));
+    assert_eq!(sphere(&S, Sphere { center: at(0.0, 0.0, 30.0), radius: 4.0 }), Ok(hit(6.0, 20.0, 0.0, 1)));
+    assert_eq!(aabb(&S, bounds(18.0, 30.0, 0.0, 5.0)), Ok(hit(-2.0, 20.0, 0.0, 1)));
+    assert_eq!(aabb(&S, bounds(-5.0, 25.0, 5.0, 15.0)), Ok(hit(-1e-8, 20.0, 10.0, 1)));
     let corners = [25.0, 0.0, 30.0, 0.0, 30.0, 5.0, 25.0, 5.0];
-    assert_eq!(convex(&corners, &S).map(|hit| hit.distance), Ok(5.0));
+    assert_eq!(convex(&corners, &S), Ok(hit(5.0, 20.0, 0.0, 1)));
+    // Deepest inside this one lies the vertex (20, 10), where edge 1 starts.
+    let around = [-5.0, -5.0, 26.0, -5.0, 26.0, 16.0, -5.0, 16.0];
+    assert_eq!(convex(&around, &S), Ok(hit(-6.0, 20.0, 10.0, 1)));
     let along = bar(at(15.0, 0.0, 0.0), at(15.0, 0.0, 30.0), 2.0);
     assert_eq!(
         cylinder(&S, along, Settings::FINEST),
-        Ok(CylinderHit { hit: hit(3.0, 0.0, 10.0), boxes: 1, waiting: 0, cut: false })
+        Ok(CylinderHit { hit: hit(3.0, 0.0, 10.0, 0), boxes: 1, waiting: 0, cut: false })
     );
     let across = bar(at(12.0, 0.0, 10.0), at(30.0, 0.0, 10.0), 2.0);
-    assert_eq!(cylinder(&S, across, Settings::FINEST).map(|walk| (walk.boxes, walk.cut)), Ok((8192, true)));
+    assert_eq!(
+        cylinder(&S, across, Settings::FINEST).map(|walk| (walk.hit.edge, walk.boxes, walk.cut)),
+        Ok((0, 8192, true))
+    );
     assert_eq!((sqrt(2.25), hypot(3.0, 4.0)), (1.5, 5.0));
 }
 

@@ -49,5 +49,5 @@ bodyAnswer s b t = reply (refusal (bodyTests s b [] (settingsTests t))) (bodyDis
 -- demands 1 and 3 of a hit
 abbrev pub BodyPromised : List Float → Body → Settings → CountedHit → Type 0
 BodyPromised s (Sphere b) t h = BoundedOffAxis s (h .hit)
-BodyPromised s (Box x) t h = Bounded (h .hit)
+BodyPromised s (Box x) t h = Bounded s (h .hit)
 BodyPromised s (Cylinder c) t h = Promised s c t h

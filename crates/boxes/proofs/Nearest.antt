@@ -7,7 +7,7 @@ use lib.Ieee.{binary64, fits}
 use Rattle.arith.specs.F64.{_≺_, ∞}
 use Rattle.arith.proofs.Laws.OrderHeld.{true→T, inf-not-less, lt-trans-held, not-lt-trans-held, number-held}
 use Rattle.profile.specs.Vertices.{hit, nearer, nearestOf, upto}
-use Rattle.profile.specs.declared.shapes.Vertex.{Vertex}
+use Rattle.profile.specs.declared.shapes.Witness.{Witness}
 use Rattle.profile.specs.declared.shapes.CollisionHit.{CollisionHit}
 use Rattle.profile.proofs.Numbers.{Held, NumberHit, infinite, nearest-number}
 
@@ -27,7 +27,7 @@ module _ (best b s : CollisionHit) (B : Held best) (N : NumberHit b) (S : Held s
       (λ p q. lt-trans-held binary64 (s .distance) (b .distance) (best .distance) S B (number-held binary64 (b .distance) N) p q)
       (λ p q. not-lt-trans-held binary64 (s .distance) (b .distance) (best .distance) S N B p q)
 
-module _ (s : ℕ → CollisionHit) (S : (k : ℕ) → Held (s k)) (w : Vertex) where
+module _ (s : ℕ → CollisionHit) (S : (k : ℕ) → Held (s k)) (w : Witness) where
   pub nearest-from : (best : CollisionHit) → fits binary64 (best .distance) ≡ true → (n : ℕ)
       → nearestOf s best n ≡ nearer best (nearestOf s (hit ∞ w) n)
   unfolding upto

@@ -4,13 +4,15 @@ use mathlib.Core.Bool.{Bool, _&&_, _||_, cond}
 use mathlib.Core.List.{List, [], _∷_}
 use lib.Ieee.{Float}
 use Rattle.arith.specs.F64.{_⊕_, _⊖_, _⊗_, _≺_, 𝟘, ½, ∞, e-9}
-use Rattle.profile.specs.Vertices.{vertex, hit, count, vertexAt, endAt, upto, any, nearestOf}
+use Rattle.profile.specs.Vertices.{vertex, on, hit, count, vertexAt, endAt, edgeAt, upto, any, nearestOf}
 use Rattle.segments.specs.Segments.{along, segments}
 use Rattle.segments.specs.Clip.{clip}
 use Rattle.points.specs.Points.{pointDistance}
 use Rattle.points.specs.Overlap.{resultOf}
 use Rattle.profile.specs.declared.shapes.Aabb.{Aabb}
 use Rattle.profile.specs.declared.shapes.Vertex.{Vertex}
+use Rattle.profile.specs.declared.shapes.Edge.{Edge}
+use Rattle.profile.specs.declared.shapes.Witness.{Witness}
 use Rattle.profile.specs.declared.shapes.CollisionHit.{CollisionHit}
 
 abbrev pub aabb : Float → Float → Float → Float → Aabb
@@ -21,11 +23,11 @@ abbrev pub corners : Aabb → List Float
 corners x = x .z0 ∷ x .r0 ∷ x .z1 ∷ x .r0 ∷ x .z1 ∷ x .r1 ∷ x .z0 ∷ x .r1 ∷ []
 
 -- a clipped edge has 0, its witness where the clip enters; any other takes the first smallest of the four sides
-unfoldable pub edgeBox : Aabb → Vertex → Vertex → CollisionHit
-edgeBox x a b =
-    let c = clip x a b in
-    cond (c .any) (hit 𝟘 (along a b (c .t0)))
-    (nearestOf (λ k. segments a b (vertexAt (corners x) k) (endAt (corners x) k)) (hit ∞ a) 4)
+unfoldable pub edgeBox : Aabb → Edge → CollisionHit
+edgeBox x e =
+    let c = clip x (e .a) (e .b) in
+    cond (c .any) (hit 𝟘 (on (e .number) (along (e .a) (e .b) (c .t0))))
+    (nearestOf (λ k. segments e (vertexAt (corners x) k) (endAt (corners x) k)) (hit ∞ (on (e .number) (e .a))) 4)
 
 -- more than 1e-9 inside every side
 unfoldable pub strictlyInsideAabb : Aabb → Vertex → Bool
@@ -48,15 +50,15 @@ probe x (suc k) = vertexAt (corners x) k
 
 -- gap is the first smallest over all edges, axis edges too
 unfoldable pub boxGap : List Float → Aabb → CollisionHit
-boxGap s x = nearestOf (λ k. edgeBox x (vertexAt s k) (endAt s k)) (hit ∞ (vertexAt s 0)) (count s)
+boxGap s x = nearestOf (λ k. edgeBox x (edgeAt s k)) (hit ∞ (on 0 (vertexAt s 0))) (count s)
 
 -- penetration is the lowest signed distance below 0 at the five probes; each lower one takes over the witness
-unfoldable pub boxPenetration : List Float → Aabb → Vertex → CollisionHit
+unfoldable pub boxPenetration : List Float → Aabb → Witness → CollisionHit
 boxPenetration s x witness = nearestOf (λ k. pointDistance s (probe x k)) (hit 𝟘 witness) 5
 
--- the last vertex well inside takes over the witness
-unfoldable pub boxWitness : List Float → Aabb → Vertex → Vertex
-boxWitness s x witness = upto (λ k at. cond (strictlyInsideAabb x (vertexAt s k)) (vertexAt s k) at) witness (count s)
+-- the last vertex well inside takes over the witness, with the edge that starts there
+unfoldable pub boxWitness : List Float → Aabb → Witness → Witness
+boxWitness s x witness = upto (λ k at. cond (strictlyInsideAabb x (vertexAt s k)) (on k (vertexAt s k)) at) witness (count s)
 
 -- a vertex, or an edge's clipped middle, lies well inside
 unfoldable pub boxHolds : List Float → Aabb → Bool

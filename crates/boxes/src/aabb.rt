@@ -4,7 +4,8 @@ ghost use mathlib.Core.Bool.{not, _&&_, cond};
 ghost use lib.Ieee.{neg};
 ghost use Prim.Native.Nat.{_<_, _≤_};
 ghost use Rattle.arith.specs.F64.{_≺_, e-9};
-ghost use Rattle.profile.specs.Vertices.{count, vertexAt, endAt, any, nearer, nearestOf};
+ghost use Rattle.profile.specs.Vertices as profile;
+ghost use Rattle.profile.specs.Vertices.{count, vertexAt, endAt, edgeAt, any, nearer, nearestOf};
 ghost use Rattle.segments.specs.Segments.{segments};
 ghost use Rattle.boxes.specs.Boxes.{corners, edgeBox, strictlyInsideAabb, middle, segmentThroughInterior};
 ghost use Rattle.boxes.specs.Boxes.{boxGap, boxPenetration, boxWitness, boxHolds, boxDistance};
@@ -12,44 +13,48 @@ use points::deeper_at;
 use points::result_of;
 use profile::Aabb;
 use profile::CollisionHit;
+use profile::Edge;
 use profile::Vertex;
+use profile::Witness;
+use profile::edge_at;
 use profile::end_at;
 use profile::nearer_of;
+use profile::on;
 use profile::vertex_at;
 use segments::INTERIOR;
 use segments::clip_segment;
 use segments::lerp;
 use segments::seg_seg_point_on_first;
 
-// A side of the box may be nearer to the edge from a to b.
-fn nearest_side(a: Vertex, b: Vertex, x: Aabb, best: CollisionHit) -> CollisionHit
-    ensures { λ r. ⌜ r ≡ nearestOf (λ k. segments a b (vertexAt (corners x) k) (endAt (corners x) k)) best 4 ⌝ }
+// A side of the box may be nearer to the edge.
+fn nearest_side(edge: Edge, x: Aabb, best: CollisionHit) -> CollisionHit
+    ensures { λ r. ⌜ r ≡ nearestOf (λ k. segments edge (vertexAt (corners x) k) (endAt (corners x) k)) best 4 ⌝ }
 {
     let c00 = Vertex { z: x.z0, r: x.r0 };
     let c10 = Vertex { z: x.z1, r: x.r0 };
     let c11 = Vertex { z: x.z1, r: x.r1 };
     let c01 = Vertex { z: x.z0, r: x.r1 };
-    let first = seg_seg_point_on_first(a, b, c00, c10, best);
-    let second = seg_seg_point_on_first(a, b, c10, c11, first);
-    let third = seg_seg_point_on_first(a, b, c11, c01, second);
-    seg_seg_point_on_first(a, b, c01, c00, third)
+    let first = seg_seg_point_on_first(edge, c00, c10, best);
+    let second = seg_seg_point_on_first(edge, c10, c11, first);
+    let third = seg_seg_point_on_first(edge, c11, c01, second);
+    seg_seg_point_on_first(edge, c01, c00, third)
 }
 
-// The edge from a to b may be nearer to the box.
-pub fn segment_aabb_distance(a: Vertex, b: Vertex, x: Aabb, best: CollisionHit) -> CollisionHit
-    ensures { λ r. ⌜ r ≡ nearer best (edgeBox x a b) ⌝ }
+// The edge may be nearer to the box.
+pub fn segment_aabb_distance(edge: Edge, x: Aabb, best: CollisionHit) -> CollisionHit
+    ensures { λ r. ⌜ r ≡ nearer best (edgeBox x edge) ⌝ }
 {
-    let c = clip_segment(a, b, x);
+    let c = clip_segment(edge.a, edge.b, x);
     let any = c.any;
     let t0 = c.t0;
     if any {
         let entered = CollisionHit {
             distance: 0.0,
-            witness: lerp(a, b, t0),
+            witness: on(edge.number, lerp(edge.a, edge.b, t0)),
         };
         return nearer_of(best, entered);
     }
-    nearest_side(a, b, x, best)
+    nearest_side(edge, x, best)
 }
 
 pub fn strictly_inside_aabb(v: Vertex, x: Aabb) -> bool
@@ -84,11 +89,9 @@ pub fn segment_through_interior(a: Vertex, b: Vertex, x: Aabb) -> bool
 // Edge k may be nearer to the box.
 fn gap_at(s: &[f64], x: Aabb, k: usize, best: CollisionHit) -> CollisionHit
     requires { ⌜ k < count (now s) ⌝ }
-    ensures { λ r. ⌜ r ≡ nearer best (edgeBox x (vertexAt (now (s .entry)) k) (endAt (now (s .entry)) k)) ⌝ }
+    ensures { λ r. ⌜ r ≡ nearer best (edgeBox x (edgeAt (now (s .entry)) k)) ⌝ }
 {
-    let a = vertex_at(s, k);
-    let b = end_at(s, k);
-    segment_aabb_distance(a, b, x, best)
+    segment_aabb_distance(edge_at(s, k), x, best)
 }
 
 fn box_gap(s: &[f64], x: Aabb) -> CollisionHit
@@ -98,7 +101,7 @@ fn box_gap(s: &[f64], x: Aabb) -> CollisionHit
     let n = s.len() / 2;
     let mut best = CollisionHit {
         distance: arith::infinity(),
-        witness: vertex_at(s, 0),
+        witness: on(0, vertex_at(s, 0)),
     };
     let mut k = 0;
     while k < n {
@@ -108,7 +111,7 @@ fn box_gap(s: &[f64], x: Aabb) -> CollisionHit
     best
 }
 
-fn box_penetration(s: &[f64], x: Aabb, witness: Vertex) -> CollisionHit
+fn box_penetration(s: &[f64], x: Aabb, witness: Witness) -> CollisionHit
     requires { ⌜ 3 ≤ count (now s) ⌝ }
     ensures { λ r. ⌜ r ≡ boxPenetration (now (s .entry)) x witness ⌝ }
 {
@@ -127,16 +130,20 @@ fn box_penetration(s: &[f64], x: Aabb, witness: Vertex) -> CollisionHit
     deeper_at(s, c01, third)
 }
 
-// Vertex k, if it lies well inside, takes over the witness.
-fn witness_at(s: &[f64], x: Aabb, k: usize, at: Vertex) -> Vertex
+// Vertex k, if it lies well inside, takes over the witness, with the edge that starts there.
+fn witness_at(s: &[f64], x: Aabb, k: usize, at: Witness) -> Witness
     requires { ⌜ k < count (now s) ⌝ }
-    ensures { λ r. ⌜ r ≡ cond (strictlyInsideAabb x (vertexAt (now (s .entry)) k)) (vertexAt (now (s .entry)) k) at ⌝ }
+    ensures { λ r. ⌜ (let v = vertexAt (now (s .entry)) k in r ≡ cond (strictlyInsideAabb x v) (profile.on k v) at) ⌝ }
 {
     let v = vertex_at(s, k);
-    if strictly_inside_aabb(v, x) { v } else { at }
+    if strictly_inside_aabb(v, x) {
+        on(k, v)
+    } else {
+        at
+    }
 }
 
-fn box_witness(s: &[f64], x: Aabb, witness: Vertex) -> Vertex
+fn box_witness(s: &[f64], x: Aabb, witness: Witness) -> Witness
     ensures { λ r. ⌜ r ≡ boxWitness (now (s .entry)) x witness ⌝ }
 {
     let n = s.len() / 2;

@@ -6,9 +6,12 @@ use native.Mathlib.Nat.{le-trans}
 use lib.Dec.{lit≤}
 use lib.Ieee.{Float}
 use Rattle.profile.specs.Replies.{Reply, value, OfValue, Answers}
+use Rattle.profile.proofs.Replies.{owed}
 use Rattle.bands.specs.declared.shapes.Cylinder.{Cylinder}
 use Rattle.walk.specs.declared.shapes.CountedHit.{CountedHit}
 use Rattle.settings.specs.declared.shapes.Settings.{Settings}
+use Rattle.section.specs.Demand.{FewEdges}
+use Rattle.section.proofs.Demand.Queries.{bounded-few}
 use Rattle.cylinders.specs.Promised.{Promised}
 use Rattle.capi.specs.Interface.{Gives, Measures, Places, Counts, CylinderPlaces}
 use Rattle.capi.specs.Interface.{hitPlaces, hitCounts, cylinderPlaces, both}
@@ -21,6 +24,10 @@ module _ {A B : Type 0} {fields : A → B} {a b : Reply A} {n : ℕ} {held end :
   measures {P = P} e g =
       record { gives = gives (e .equal) g; owed = subst (λ (x : Reply A). OfValue P x) (e .equal) (e .owed) }
 
+-- what a query's promise comes to is owed of its answer
+pub owes : {A : Type 0} {a b : Reply A} {P Q : A → Type 0} → ((x : A) → P x → Q x) → Answers a b P → OfValue Q a
+owes {a = a} {P = P} {Q = Q} f e = owed P Q f a (e .owed)
+
 -- a cylinder's hit in the lent places
 pub walked : {a : Reply CountedHit} {h : CountedHit} {n : ℕ} {p q : Places} {c : Counts} {held : CylinderPlaces}
     → a ≡ value h → Gives hitPlaces (value (h .hit)) n p q → c ≡ hitCounts h → Gives cylinderPlaces a n held (both q c)
@@ -32,3 +39,8 @@ pub few : (s : List Float) (c : Cylinder) (t : Settings) {a : Reply CountedHit} 
 few s c t l e p =
     let q = subst (λ (x : Reply CountedHit). OfValue (Promised s c t) x) e p .few in
     (le-trans (q .boxes) l, le-trans (q .waiting) (lit≤ tt))
+
+-- and its edge is one of at most 256
+pub few-edges : (s : List Float) (c : Cylinder) (t : Settings) {a : Reply CountedHit} {h : CountedHit} → a ≡ value h
+    → OfValue (Promised s c t) a → FewEdges (h .hit)
+few-edges s c t {h = h} e p = bounded-few (h .hit) (subst (λ (x : Reply CountedHit). OfValue (Promised s c t) x) e p .bounded)

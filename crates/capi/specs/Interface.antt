@@ -46,12 +46,13 @@ pub record Places : Type 0 where
   pub distance : Float
   pub witness-z : Float
   pub witness-radius : Float
+  pub edge : ℕ
 
-abbrev pub places : Float → Float → Float → Places
-places d z r = record { distance = d; witness-z = z; witness-radius = r }
+abbrev pub places : Float → Float → Float → ℕ → Places
+places d z r e = record { distance = d; witness-z = z; witness-radius = r; edge = e }
 
 abbrev pub hitPlaces : CollisionHit → Places
-hitPlaces h = places (h .distance) (h .witness .z) (h .witness .r)
+hitPlaces h = places (h .distance) (h .witness .z) (h .witness .r) (h .witness .edge)
 
 -- of a cylinder's counts and mark
 pub record Counts : Type 0 where

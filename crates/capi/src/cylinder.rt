@@ -47,6 +47,7 @@ pub extern "C" fn jorghipa_cylinder(
     distance: &mut f64,
     witness_z: &mut f64,
     witness_radius: &mut f64,
+    edge: &mut u32,
     boxes: &mut u32,
     waiting: &mut u32,
     cut: &mut u32,
@@ -55,9 +56,9 @@ pub extern "C" fn jorghipa_cylinder(
         (let s = now (section .entry) in let c = bar (vec ax ay az) (vec bx by bz) radius in
         let t = settings tolerance most intervals in
         Measures (Promised s c t) cylinderPlaces (cylinderAnswer s c t) r
-        (both (places (now (distance .entry)) (now («witness_z» .entry)) (now («witness_radius» .entry)))
+        (both (places (now (distance .entry)) (now («witness_z» .entry)) (now («witness_radius» .entry)) (now (edge .entry)))
         (counts (now (boxes .entry)) (now (waiting .entry)) (now (cut .entry))))
-        (both (places (now (distance .exit)) (now («witness_z» .exit)) (now («witness_radius» .exit)))
+        (both (places (now (distance .exit)) (now («witness_z» .exit)) (now («witness_radius» .exit)) (now (edge .exit)))
         (counts (now (boxes .exit)) (now (waiting .exit)) (now (cut .exit))))) ⌝ }
 {
     let a = Vec3 {
@@ -80,7 +81,7 @@ pub extern "C" fn jorghipa_cylinder(
         CountedAnswer::Hit(h) => {
             let hit = h.hit;
             give_counts(h, boxes, waiting, cut);
-            give(Answer::Hit(hit), distance, witness_z, witness_radius)
+            give(Answer::Hit(hit), distance, witness_z, witness_radius, edge)
         }
         CountedAnswer::Refused(n) => n,
     }

@@ -1,7 +1,8 @@
 // The distances of a point, a sphere, a box and a convex polygon.
 ghost use Rattle.arith.specs.Vector.{vec};
+ghost use Rattle.profile.specs.Replies.{OfValue};
 ghost use Rattle.section.specs.Answers.{told, pointAnswer, sphereAnswer, boxAnswer, convexAnswer};
-ghost use Rattle.section.specs.Demand.{Bounded, BoundedOffAxis};
+ghost use Rattle.section.specs.Demand.{Bounded, BoundedOffAxis, FewEdges};
 ghost use Rattle.boxes.specs.Boxes.{aabb};
 ghost use Rattle.profile.specs.Vertices.{ball};
 ghost use Rattle.capi.specs.Interface.{Gives, Measures, places, hitPlaces};
@@ -15,10 +16,12 @@ pub fn give(
     distance: &mut f64,
     witness_z: &mut f64,
     witness_radius: &mut f64,
+    edge: &mut u32,
 ) -> u32
+    requires { ⌜ OfValue FewEdges (told answer) ⌝ }
     ensures { λ r. ⌜ Gives hitPlaces (told answer) r
-        (places (now (distance .entry)) (now («witness_z» .entry)) (now («witness_radius» .entry)))
-        (places (now (distance .exit)) (now («witness_z» .exit)) (now («witness_radius» .exit))) ⌝ }
+        (places (now (distance .entry)) (now («witness_z» .entry)) (now («witness_radius» .entry)) (now (edge .entry)))
+        (places (now (distance .exit)) (now («witness_z» .exit)) (now («witness_radius» .exit)) (now (edge .exit))) ⌝ }
 {
     match answer {
         Answer::Hit(h) => {
@@ -26,6 +29,7 @@ pub fn give(
             *distance = h.distance;
             *witness_z = at.z;
             *witness_radius = at.r;
+            *edge = at.edge as u32;
             0
         }
         Answer::Refused(n) => n,
@@ -41,13 +45,14 @@ pub extern "C" fn jorghipa_point(
     distance: &mut f64,
     witness_z: &mut f64,
     witness_radius: &mut f64,
+    edge: &mut u32,
 ) -> u32
     ensures { λ r. ⌜ (let s = now (section .entry) in Measures (BoundedOffAxis s) hitPlaces (pointAnswer s (vec x y z)) r
-        (places (now (distance .entry)) (now («witness_z» .entry)) (now («witness_radius» .entry)))
-        (places (now (distance .exit)) (now («witness_z» .exit)) (now («witness_radius» .exit)))) ⌝ }
+        (places (now (distance .entry)) (now («witness_z» .entry)) (now («witness_radius» .entry)) (now (edge .entry)))
+        (places (now (distance .exit)) (now («witness_z» .exit)) (now («witness_radius» .exit)) (now (edge .exit)))) ⌝ }
 {
     let answer = section::signed_distance(section, Vec3 { x, y, z });
-    give(answer, distance, witness_z, witness_radius)
+    give(answer, distance, witness_z, witness_radius, edge)
 }
 
 #[no_mangle]
@@ -60,14 +65,15 @@ pub extern "C" fn jorghipa_sphere(
     distance: &mut f64,
     witness_z: &mut f64,
     witness_radius: &mut f64,
+    edge: &mut u32,
 ) -> u32
     ensures { λ r. ⌜ (let s = now (section .entry) in Measures (BoundedOffAxis s) hitPlaces (sphereAnswer s (ball (vec x y z) radius)) r
-        (places (now (distance .entry)) (now («witness_z» .entry)) (now («witness_radius» .entry)))
-        (places (now (distance .exit)) (now («witness_z» .exit)) (now («witness_radius» .exit)))) ⌝ }
+        (places (now (distance .entry)) (now («witness_z» .entry)) (now («witness_radius» .entry)) (now (edge .entry)))
+        (places (now (distance .exit)) (now («witness_z» .exit)) (now («witness_radius» .exit)) (now (edge .exit)))) ⌝ }
 {
     let center = Vec3 { x, y, z };
     let answer = section::query_sphere(section, Sphere { center, radius });
-    give(answer, distance, witness_z, witness_radius)
+    give(answer, distance, witness_z, witness_radius, edge)
 }
 
 #[no_mangle]
@@ -80,13 +86,14 @@ pub extern "C" fn jorghipa_box(
     distance: &mut f64,
     witness_z: &mut f64,
     witness_radius: &mut f64,
+    edge: &mut u32,
 ) -> u32
-    ensures { λ r. ⌜ Measures Bounded hitPlaces (boxAnswer (now (section .entry)) (aabb z0 z1 r0 r1)) r
-        (places (now (distance .entry)) (now («witness_z» .entry)) (now («witness_radius» .entry)))
-        (places (now (distance .exit)) (now («witness_z» .exit)) (now («witness_radius» .exit))) ⌝ }
+    ensures { λ r. ⌜ (let s = now (section .entry) in Measures (Bounded s) hitPlaces (boxAnswer s (aabb z0 z1 r0 r1)) r
+        (places (now (distance .entry)) (now («witness_z» .entry)) (now («witness_radius» .entry)) (now (edge .entry)))
+        (places (now (distance .exit)) (now («witness_z» .exit)) (now («witness_radius» .exit)) (now (edge .exit)))) ⌝ }
 {
     let answer = section::aabb_polygon_distance(z0, z1, r0, r1, section);
-    give(answer, distance, witness_z, witness_radius)
+    give(answer, distance, witness_z, witness_radius, edge)
 }
 
 #[no_mangle]
@@ -96,11 +103,12 @@ pub extern "C" fn jorghipa_convex(
     distance: &mut f64,
     witness_z: &mut f64,
     witness_radius: &mut f64,
+    edge: &mut u32,
 ) -> u32
-    ensures { λ r. ⌜ Measures Bounded hitPlaces (convexAnswer (now (convex .entry)) (now (section .entry))) r
-        (places (now (distance .entry)) (now («witness_z» .entry)) (now («witness_radius» .entry)))
-        (places (now (distance .exit)) (now («witness_z» .exit)) (now («witness_radius» .exit))) ⌝ }
+    ensures { λ r. ⌜ (let s = now (section .entry) in Measures (Bounded s) hitPlaces (convexAnswer (now (convex .entry)) s) r
+        (places (now (distance .entry)) (now («witness_z» .entry)) (now («witness_radius» .entry)) (now (edge .entry)))
+        (places (now (distance .exit)) (now («witness_z» .exit)) (now («witness_radius» .exit)) (now (edge .exit)))) ⌝ }
 {
     let answer = section::convex_polygon_distance(convex, section);
-    give(answer, distance, witness_z, witness_radius)
+    give(answer, distance, witness_z, witness_radius, edge)
 }

@@ -1,3 +1,4 @@
--- Laws that the functions' proofs use.
+-- Laws that the functions' proofs use, and of the edge that supplies a witness.
 pub mod Flags
 pub mod Outside
+pub mod Edges

@@ -5,20 +5,21 @@ use mathlib.Core.List.{List}
 use lib.Ieee.{Float, neg}
 use Rattle.arith.specs.F64.{_⊖_, _⊗_, _≺_, _≼_, 𝟘, ∞, e-9, e-12}
 use Rattle.arith.specs.Num.{min, isFinite}
-use Rattle.profile.specs.Vertices.{hit, count, vertexAt, endAt, upto, any, nearestOf}
+use Rattle.profile.specs.Vertices.{on, hit, count, vertexAt, endAt, edgeAt, upto, any, nearestOf}
 use Rattle.segments.specs.Segments.{closest, segments}
 use Rattle.points.specs.Points.{pointDistance}
 use Rattle.points.specs.Overlap.{resultOf}
 use Rattle.profile.specs.declared.shapes.Vertex.{Vertex}
+use Rattle.profile.specs.declared.shapes.Witness.{Witness}
 use Rattle.profile.specs.declared.shapes.CollisionHit.{CollisionHit}
 
 -- gap is the first smallest over edge pairs, convex edge outer
 unfoldable pub convexRow : List Float → List Float → ℕ → CollisionHit → CollisionHit
 convexRow c s i best =
-    nearestOf (λ j. segments (vertexAt s j) (endAt s j) (vertexAt c i) (endAt c i)) best (count s)
+    nearestOf (λ j. segments (edgeAt s j) (vertexAt c i) (endAt c i)) best (count s)
 
 unfoldable pub convexGap : List Float → List Float → CollisionHit
-convexGap c s = upto (convexRow c s) (hit ∞ (vertexAt s 0)) (count c)
+convexGap c s = upto (convexRow c s) (hit ∞ (on 0 (vertexAt s 0))) (count c)
 
 -- the cross product of b - a and p - a: on which side of the line from a to b the point p lies
 unfoldable pub orient : Vertex → Vertex → Vertex → Float
@@ -33,7 +34,7 @@ pointInConvex c p =
 
 -- the least distance of p to all convex edges
 unfoldable pub convexNear : List Float → Vertex → Float
-convexNear c p = upto (λ k best. min best (closest p (vertexAt c k) (endAt c k) .distance)) ∞ (count c)
+convexNear c p = upto (λ k best. min best (closest p (edgeAt c k) .distance)) ∞ (count c)
 
 -- 0 if ≤ 1e-12; negative when the cross products share a sign
 unfoldable pub signedDistanceConvex : List Float → Vertex → Float
@@ -42,10 +43,10 @@ signedDistanceConvex c p =
     cond (not (isFinite d) || (d ≼ e-12)) 𝟘 (cond (pointInConvex c p) (neg d) d)
 
 -- penetration: first the point distance at the convex's vertices, then at each section vertex its convex distance; each lower
--- value below 0 keeps its witness
-unfoldable pub convexPenetration : List Float → List Float → Vertex → CollisionHit
+-- value below 0 keeps its witness, a section vertex with the edge that starts there
+unfoldable pub convexPenetration : List Float → List Float → Witness → CollisionHit
 convexPenetration c s witness =
-    nearestOf (λ j. hit (signedDistanceConvex c (vertexAt s j)) (vertexAt s j))
+    nearestOf (λ j. hit (signedDistanceConvex c (vertexAt s j)) (on j (vertexAt s j)))
     (nearestOf (λ i. pointDistance s (vertexAt c i)) (hit 𝟘 witness) (count c))
     (count s)
 

@@ -6,7 +6,8 @@ ghost use lib.Ieee.{neg};
 ghost use Prim.Native.Nat.{_<_, _≤_};
 ghost use Rattle.arith.specs.F64.{_≺_, 𝟘, e-9};
 ghost use Rattle.arith.specs.Num as num;
-ghost use Rattle.profile.specs.Vertices.{hit, count, vertexAt, endAt, nearer, nearestOf};
+ghost use Rattle.profile.specs.Vertices as profile;
+ghost use Rattle.profile.specs.Vertices.{hit, count, vertexAt, endAt, edgeAt, nearer, nearestOf};
 ghost use Rattle.segments.specs.Segments.{closest, segments};
 ghost use Rattle.points.specs.Points.{pointDistance};
 ghost use Rattle.convex.specs.Convex.{convexRow, convexGap, orient, pointInConvex, convexNear, signedDistanceConvex};
@@ -15,8 +16,11 @@ use points::deeper_at;
 use points::result_of;
 use profile::CollisionHit;
 use profile::Vertex;
+use profile::Witness;
+use profile::edge_at;
 use profile::end_at;
 use profile::nearer_of;
+use profile::on;
 use profile::vertex_at;
 use segments::BOUNDARY;
 use segments::INTERIOR;
@@ -27,9 +31,9 @@ use segments::seg_seg_point_on_first;
 // Edge j of the section may be nearer to the edge from a to b.
 fn nearer_edge(s: &[f64], j: usize, a: Vertex, b: Vertex, best: CollisionHit) -> CollisionHit
     requires { ⌜ j < count (now s) ⌝ }
-    ensures { λ r. ⌜ r ≡ nearer best (segments (vertexAt (now (s .entry)) j) (endAt (now (s .entry)) j) a b) ⌝ }
+    ensures { λ r. ⌜ r ≡ nearer best (segments (edgeAt (now (s .entry)) j) a b) ⌝ }
 {
-    seg_seg_point_on_first(vertex_at(s, j), end_at(s, j), a, b, best)
+    seg_seg_point_on_first(edge_at(s, j), a, b, best)
 }
 
 fn convex_row(c: &[f64], s: &[f64], i: usize, start: CollisionHit) -> CollisionHit
@@ -55,7 +59,7 @@ fn convex_gap(c: &[f64], s: &[f64]) -> CollisionHit
     let n = c.len() / 2;
     let mut best = CollisionHit {
         distance: arith::infinity(),
-        witness: vertex_at(s, 0),
+        witness: on(0, vertex_at(s, 0)),
     };
     let mut i = 0;
     while i < n {
@@ -100,7 +104,7 @@ pub fn point_in_convex(c: &[f64], p: Vertex) -> bool
 // Edge k may be closer to p.
 fn closer_edge(c: &[f64], p: Vertex, k: usize, best: f64) -> f64
     requires { ⌜ k < count (now c) ⌝ }
-    ensures { λ r. ⌜ r ≡ num.min best (closest p (vertexAt (now (c .entry)) k) (endAt (now (c .entry)) k) .distance) ⌝ }
+    ensures { λ r. ⌜ r ≡ num.min best (closest p (edgeAt (now (c .entry)) k) .distance) ⌝ }
 {
     let q = closest_point(p, vertex_at(c, k), end_at(c, k));
     closer_between(best, p, q)
@@ -140,7 +144,7 @@ fn deeper_corner(c: &[f64], s: &[f64], i: usize, best: CollisionHit) -> Collisio
     deeper_at(s, vertex_at(c, i), best)
 }
 
-fn deepest_corner(c: &[f64], s: &[f64], witness: Vertex) -> CollisionHit
+fn deepest_corner(c: &[f64], s: &[f64], witness: Witness) -> CollisionHit
     requires { ⌜ 3 ≤ count (now s) ⌝ }
     ensures { λ r. ⌜ r ≡
         nearestOf (λ i. pointDistance (now (s .entry)) (vertexAt (now (c .entry)) i)) (hit 𝟘 witness)
@@ -159,21 +163,22 @@ fn deepest_corner(c: &[f64], s: &[f64], witness: Vertex) -> CollisionHit
     best
 }
 
-fn deeper_point(c: &[f64], v: Vertex, best: CollisionHit) -> CollisionHit
-    ensures { λ r. ⌜ r ≡ nearer best (hit (signedDistanceConvex (now (c .entry)) v) v) ⌝ }
+fn deeper_point(c: &[f64], k: usize, v: Vertex, best: CollisionHit) -> CollisionHit
+    ensures { λ r. ⌜ r ≡ nearer best (hit (signedDistanceConvex (now (c .entry)) v) (profile.on k v)) ⌝ }
 {
     let new = CollisionHit {
         distance: signed_distance_convex(c, v),
-        witness: v,
+        witness: on(k, v),
     };
     nearer_of(best, new)
 }
 
-// Vertex j of the section may be deeper in the convex body. Outside it is not below 0, and needs no
-// distance.
+// Vertex j of the section may be deeper in the convex body, with the edge that starts there. Outside it
+// is not below 0, and needs no distance.
 fn deeper_vertex(c: &[f64], s: &[f64], j: usize, best: CollisionHit) -> CollisionHit
     requires { ⌜ j < count (now s) ⌝ }
-    ensures { λ r. ⌜ r ≡ nearer best (hit (signedDistanceConvex (now (c .entry)) (vertexAt (now (s .entry)) j)) (vertexAt (now (s .entry)) j)) ⌝ }
+    ensures { λ r. ⌜ (let v = vertexAt (now (s .entry)) j in
+        r ≡ nearer best (hit (signedDistanceConvex (now (c .entry)) v) (profile.on j v))) ⌝ }
 {
     let v = vertex_at(s, j);
     if best.distance <= 0.0 {
@@ -181,10 +186,10 @@ fn deeper_vertex(c: &[f64], s: &[f64], j: usize, best: CollisionHit) -> Collisio
             return best;
         }
     }
-    deeper_point(c, v, best)
+    deeper_point(c, j, v, best)
 }
 
-fn convex_penetration(c: &[f64], s: &[f64], witness: Vertex) -> CollisionHit
+fn convex_penetration(c: &[f64], s: &[f64], witness: Witness) -> CollisionHit
     requires { ⌜ 3 ≤ count (now s) ⌝ }
     ensures { λ r. ⌜ r ≡ convexPenetration (now (c .entry)) (now (s .entry)) witness ⌝ }
 {

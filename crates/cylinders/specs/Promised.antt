@@ -39,6 +39,6 @@ acrossSpindle Neither = false
 -- Demands 1 and 3 of a hit: always finite, also beside a section on the axis only; counts within their limits; along X and along Y
 -- the walk's promise, the band of a cylinder along Y being that of the exchanged one
 pub record Promised (s : List Float) (c : Cylinder) (t : Settings) (h : CountedHit) : Type 0 where
-  pub bounded : Bounded (h .hit)
+  pub bounded : Bounded s (h .hit)
   pub few : Few t h
   pub across : T (acrossSpindle (axis c)) → T (e-15 ≺ c .radius) → Across s (bandOf (measuredAs (axis c) c)) t h

@@ -6,7 +6,7 @@ use lib.Ieee.{Float, binary64, neg, unlike}
 use Rattle.arith.specs.F64.{_⊕_, _⊖_, _⊗_, _⊘_, _≺_, _≼_, 𝟘, ∞, e-8, e-9, e-12, e-18}
 use Rattle.arith.specs.Num.{min, max, abs, isFinite}
 use Rattle.roots.specs.Roots.{hypot}
-use Rattle.profile.specs.Vertices.{vertex, hit, count, vertexAt, endAt, upto, any, nearer}
+use Rattle.profile.specs.Vertices.{vertex, on, hit, count, vertexAt, endAt, edgeAt, upto, any, nearer}
 use Rattle.segments.specs.Segments.{closest}
 use Rattle.profile.specs.declared.shapes.Vertex.{Vertex}
 use Rattle.profile.specs.declared.shapes.CollisionHit.{CollisionHit}
@@ -20,11 +20,11 @@ edgeIsSurface a b = (e-9 ≺ abs (a .r)) || (e-9 ≺ abs (b .r))
 -- edge k lowers the distance that best has: the first strictly smallest wins
 unfoldable pub surfaceStep : List Float → Vertex → ℕ → CollisionHit → CollisionHit
 surfaceStep s p k best =
-    cond (edgeIsSurface (vertexAt s k) (endAt s k)) (nearer best (closest p (vertexAt s k) (endAt s k))) best
+    cond (edgeIsSurface (vertexAt s k) (endAt s k)) (nearer best (closest p (edgeAt s k))) best
 
--- the closest point on the edges that count; +infinity and the first vertex where none does
+-- the closest point on the edges that count; +infinity, the first vertex and edge 0 where none does
 unfoldable pub surfaceNear : List Float → Vertex → CollisionHit
-surfaceNear s p = upto (surfaceStep s p) (hit ∞ (vertexAt s 0)) (count s)
+surfaceNear s p = upto (surfaceStep s p) (hit ∞ (on 0 (vertexAt s 0))) (count s)
 
 -- the edge from a to b crosses the line from p along z strictly beyond p; one whose radii differ by at most 1e-18 does not
 unfoldable pub crosses : Vertex → Vertex → Vertex → Bool

@@ -10,9 +10,12 @@ ghost use Rattle.points.specs.Points.{edgeIsSurface, surfaceStep, surfac
 ghost use Rattle.points.specs.Points.{insideAxisEdge, inSection, pointDistance, sphereDistance};
 use arith::Vec3;
 use profile::CollisionHit;
+use profile::Edge;
 use profile::Sphere;
 use profile::Vertex;
+use profile::edge_at;
 use profile::end_at;
+use profile::on;
 use profile::vertex_at;
 use segments::BOUNDARY;
 use segments::point_segment;
@@ -24,12 +27,12 @@ fn edge_is_surface(a: Vertex, b: Vertex) -> bool
     arith::abs(a.r) > 1e-9 || arith::abs(b.r) > 1e-9
 }
 
-// The edge from a to b, if it counts, lowers the distance that best has.
-fn surface_edge(p: Vertex, a: Vertex, b: Vertex, best: CollisionHit) -> CollisionHit
-    ensures { λ r. ⌜ r ≡ cond (edgeIsSurface a b) (nearer best (closest p a b)) best ⌝ }
+// The edge, if it counts, lowers the distance that best has.
+fn surface_edge(p: Vertex, edge: Edge, best: CollisionHit) -> CollisionHit
+    ensures { λ r. ⌜ r ≡ cond (edgeIsSurface (edge .a) (edge .b)) (nearer best (closest p edge)) best ⌝ }
 {
-    if edge_is_surface(a, b) {
-        return point_segment(p, a, b, best);
+    if edge_is_surface(edge.a, edge.b) {
+        return point_segment(p, edge, best);
     }
     best
 }
@@ -38,7 +41,7 @@ fn surface_step(s: &[f64], p: Vertex, k: usize, best: CollisionHit) -> Collision
     requires { ⌜ k < count (now s) ⌝ }
     ensures { λ r. ⌜ r ≡ surfaceStep (now (s .entry)) p k best ⌝ }
 {
-    surface_edge(p, vertex_at(s, k), end_at(s, k), best)
+    surface_edge(p, edge_at(s, k), best)
 }
 
 fn surface_near(s: &[f64], p: Vertex) -> CollisionHit
@@ -48,7 +51,7 @@ fn surface_near(s: &[f64], p: Vertex) -> CollisionHit
     let n = s.len() / 2;
     let mut best = CollisionHit {
         distance: arith::infinity(),
-        witness: vertex_at(s, 0),
+        witness: on(0, vertex_at(s, 0)),
     };
     let mut k = 0;
     while k < n {

@@ -4,5 +4,6 @@ pub mod Fold
 pub mod Each
 pub mod Steps
 pub mod Numbers
+pub mod Nearest
 pub mod Refusals
 pub mod Replies

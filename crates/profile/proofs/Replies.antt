@@ -14,6 +14,11 @@ of-reply P (suc n) a f = tt
 pub answered : {A : Type 0} (P : A → Type 0) {r answer : Reply A} → OfValue P answer → r ≡ answer → Answers r answer P
 answered {A} P d e = record { equal = e; owed = subst (λ (x : Reply A). OfValue P x) (sym e) d }
 
+-- what is owed of a value is owed of it if something stronger is
+pub owed : {A : Type 0} (P Q : A → Type 0) → ((a : A) → P a → Q a) → (r : Reply A) → OfValue P r → OfValue Q r
+owed P Q f (value a) p = f a p
+owed P Q f (turned-down n) p = tt
+
 -- an answer that is another one's, with its value changed
 pub mapped-reply : {A B : Type 0} (f : A → B) (n : ℕ) (a : A) → mapped f (reply n a) ≡ reply n (f a)
 mapped-reply f zero a = refl

@@ -1,5 +1,5 @@
--- Vertices and edges of a section, and the ways to go through them; makers of hits and spheres. A section is a list of numbers, z and radius in turn; its last
--- vertex joins the first.
+-- Vertices and edges of a section, and the ways to go through them; makers of witnesses, hits and spheres. A section is a list of
+-- numbers, z and radius in turn; its last vertex joins the first.
 use Prim.Native.Nat.{ℕ, zero, suc, _+_, _*_, _/_}
 use mathlib.Core.Bool.{Bool, false, _||_, cond}
 use mathlib.Core.List.{List}
@@ -8,6 +8,8 @@ use lib.Dec.{eqb}
 use lib.Ieee.{Float, nan}
 use Rattle.arith.specs.F64.{_≺_}
 use Rattle.profile.specs.declared.shapes.Vertex.{Vertex}
+use Rattle.profile.specs.declared.shapes.Edge.{Edge}
+use Rattle.profile.specs.declared.shapes.Witness.{Witness}
 use Rattle.arith.specs.declared.vector.Vec3.{Vec3}
 use Rattle.profile.specs.declared.shapes.CollisionHit.{CollisionHit}
 use Rattle.profile.specs.declared.shapes.Sphere.{Sphere}
@@ -15,7 +17,15 @@ use Rattle.profile.specs.declared.shapes.Sphere.{Sphere}
 abbrev pub vertex : Float → Float → Vertex
 vertex z r = record { z = z; r = r }
 
-abbrev pub hit : Float → Vertex → CollisionHit
+-- a point of the section, supplied by edge k
+abbrev pub witness : Float → Float → ℕ → Witness
+witness z r k = record { z = z; r = r; edge = k }
+
+-- the point v as witness of edge k
+abbrev pub on : ℕ → Vertex → Witness
+on k v = witness (v .z) (v .r) k
+
+abbrev pub hit : Float → Witness → CollisionHit
 hit distance witness = record { distance = distance; witness = witness }
 
 abbrev pub ball : Vec3 → Float → Sphere
@@ -33,6 +43,10 @@ next n k = cond (eqb (k + 1) n) 0 (k + 1)
 
 abbrev pub endAt : List Float → ℕ → Vertex
 endAt s k = vertexAt s (next (count s) k)
+
+-- both ends, and the number
+abbrev pub edgeAt : List Float → ℕ → Edge
+edgeAt s k = record { a = vertexAt s k; b = endAt s k; number = k }
 
 -- what a becomes when step k is done for k = 0 to n - 1, in that order
 unfoldable pub upto : {A : Type 0} → (ℕ → A → A) → A → ℕ → A

@@ -6,8 +6,10 @@ mod vertices;
 
 pub use shapes::Aabb;
 pub use shapes::CollisionHit;
+pub use shapes::Edge;
 pub use shapes::Sphere;
 pub use shapes::Vertex;
+pub use shapes::Witness;
 
 // For the crates above.
 pub use refusal::any_below_axis;
@@ -17,6 +19,8 @@ pub use refusal::convex_refusal;
 pub use refusal::list_refusal;
 pub use refusal::point_refusal;
 pub use refusal::sphere_refusal;
+pub use vertices::edge_at;
 pub use vertices::end_at;
 pub use vertices::nearer_of;
+pub use vertices::on;
 pub use vertices::vertex_at;

@@ -1,4 +1,4 @@
-// The records of a profile and of what stands beside it: vertices, boxes, spheres, hits.
+// The records of a profile and of what stands beside it: vertices, edges, boxes, spheres, hits.
 use arith::Vec3;
 
 // As C lays it out: a slice of vertices can be lent from there.
@@ -21,8 +21,22 @@ pub struct Sphere {
     pub radius: f64,
 }
 
-// A signed distance and its witness, a point of the section.
+// An edge of a profile: where it starts, where it ends, and its number, that of the vertex at its start.
+pub struct Edge {
+    pub a: Vertex,
+    pub b: Vertex,
+    pub number: usize,
+}
+
+// A point of the section, and the number of the edge that supplied it.
+pub struct Witness {
+    pub z: f64,
+    pub r: f64,
+    pub edge: usize,
+}
+
+// A signed distance and its witness.
 pub struct CollisionHit {
     pub distance: f64,
-    pub witness: Vertex,
+    pub witness: Witness,
 }

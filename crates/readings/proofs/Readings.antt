@@ -11,8 +11,8 @@ use Rattle.arith.specs.Num.{isFinite}
 use Rattle.roots.specs.Roots.{sqrt, hypot}
 use Rattle.arith.specs.Vector.{vec}
 use Rattle.arith.specs.declared.vector.Vec3.{Vec3}
-use Rattle.profile.specs.Vertices.{ball, vertex, hit, upto, any, vertexAt}
-use Rattle.segments.specs.Segments.{closest, closestPlaces, segments}
+use Rattle.profile.specs.Vertices.{ball, witness, on, hit, upto, any, vertexAt}
+use Rattle.segments.specs.Segments.{closestPoint, closest, closestPlaces, segments}
 use Rattle.points.specs.Points.{surfaceStep, surfaceNear, crosses, pointInside, insideAxisEdge, inSection}
 use Rattle.points.specs.Points.{pointDistance, sphereDistance}
 use Rattle.segments.specs.Clip.{clipSide, clip}
@@ -66,7 +66,7 @@ Holds (sphereBeside s b a) = sphereAnswer s b ≡ a
 Holds (box x a) = boxAnswer S x ≡ a
 Holds (cylinder c a) = cylinderAnswer S c finest ≡ a
 Holds (cylinderAt c t a) = cylinderAnswer S c t ≡ a
-Holds (everywhere given d) = (p : Vertex) → pointDistance (sectionOf given) p ≡ hit d (vertexAt (sectionOf given) 0)
+Holds (everywhere given d) = (p : Vertex) → pointDistance (sectionOf given) p ≡ hit d (on 0 (vertexAt (sectionOf given) 0))
 Holds (section given space a) = sectionAnswer given space ≡ a
 Holds (polygon given space a) = polygonAnswer given space ≡ a
 
@@ -79,13 +79,14 @@ pub data All : List Row → Type 0 where
 abbrev pub at : ℕ → ℕ → ℕ → Vec3
 at x y z = vec (mm x) (mm y) (mm z)
 
-abbrev pub hits : Float → ℕ → ℕ → Reply CollisionHit
-hits d z r = value (hit d (vertex (mm z) (mm r)))
+-- distance, witness and its edge
+abbrev pub hits : Float → ℕ → ℕ → ℕ → Reply CollisionHit
+hits d z r e = value (hit d (witness (mm z) (mm r) e))
 
--- distance and witness; boxes measured and the most pieces that waited, uncut
-abbrev pub walks : Float → Float → Float → ℕ → ℕ → Reply CountedHit
-walks d z r boxes waiting =
-    value (record { hit = hit d (vertex z r); boxes = boxes; waiting = waiting; cut = false })
+-- the same; boxes measured and the most pieces that waited, uncut
+abbrev pub walks : Float → Float → Float → ℕ → ℕ → ℕ → Reply CountedHit
+walks d z r e boxes waiting =
+    value (record { hit = hit d (witness z r e); boxes = boxes; waiting = waiting; cut = false })
 
 -- 2 ^ -30, and 10 less 2 ^ -30
 abbrev pub thin : Float
@@ -102,22 +103,22 @@ room (suc n) = mm 0 ∷ room n
 abbrev pub readings : List Row
 readings =
     keeps (mm 0 ∷ mm 10 ∷ mm 20 ∷ mm 10 ∷ []) (mm 0 ∷ mm 10 ∷ mm 20 ∷ mm 10 ∷ mm 20 ∷ mm 0 ∷ mm 0 ∷ mm 0 ∷ [])
-    ∷ point (at 0 0 10) (hits (neg (mm 10)) 10 10)
-    ∷ point (at 3 4 30) (hits (mm 10) 20 5)
-    ∷ point (at 5 0 20) (hits (mm 0) 20 5)
-    ∷ sphere (ball (at 0 0 30) (mm 4)) (hits (mm 6) 20 0)
-    ∷ box (aabb (mm 25) (mm 30) (mm 0) (mm 5)) (hits (mm 5) 20 0)
-    ∷ box (aabb (mm 18) (mm 30) (mm 0) (mm 5)) (hits (neg (mm 2)) 20 0)
-    ∷ box (aabb (mm 20) (mm 25) (mm 0) (mm 5)) (hits (mm 0) 20 5)
-    ∷ box (aabb (neg (mm 5)) (mm 25) (mm 5) (mm 15)) (hits (neg e-8) 20 10)
-    ∷ cylinder (bar (at 15 0 0) (at 15 0 30) (mm 2)) (walks (mm 3) (mm 0) (mm 10) 1 0)
-    ∷ cylinder (bar (at 12 0 10) (at 30 0 10) (mm 0)) (walks (mm 2) (mm 10) (mm 10) 1 0)
-    ∷ cylinder (bar (at 12 0 10) (at 30 0 10) thin) (walks (mm 2) nearly10 (mm 10) 1 1)
+    ∷ point (at 0 0 10) (hits (neg (mm 10)) 10 10 0)
+    ∷ point (at 3 4 30) (hits (mm 10) 20 5 1)
+    ∷ point (at 5 0 20) (hits (mm 0) 20 5 1)
+    ∷ sphere (ball (at 0 0 30) (mm 4)) (hits (mm 6) 20 0 1)
+    ∷ box (aabb (mm 25) (mm 30) (mm 0) (mm 5)) (hits (mm 5) 20 0 1)
+    ∷ box (aabb (mm 18) (mm 30) (mm 0) (mm 5)) (hits (neg (mm 2)) 20 0 1)
+    ∷ box (aabb (mm 20) (mm 25) (mm 0) (mm 5)) (hits (mm 0) 20 5 1)
+    ∷ box (aabb (neg (mm 5)) (mm 25) (mm 5) (mm 15)) (hits (neg e-8) 20 10 1)
+    ∷ cylinder (bar (at 15 0 0) (at 15 0 30) (mm 2)) (walks (mm 3) (mm 0) (mm 10) 0 1 0)
+    ∷ cylinder (bar (at 12 0 10) (at 30 0 10) (mm 0)) (walks (mm 2) (mm 10) (mm 10) 0 1 0)
+    ∷ cylinder (bar (at 12 0 10) (at 30 0 10) thin) (walks (mm 2) nearly10 (mm 10) 0 1 1)
     ∷ keeps (mm 0 ∷ mm 0 ∷ mm 20 ∷ mm 0 ∷ []) (mm 0 ∷ mm 0 ∷ mm 20 ∷ mm 0 ∷ mm 0 ∷ mm 0 ∷ [])
     ∷ everywhere (mm 0 ∷ mm 0 ∷ mm 20 ∷ mm 0 ∷ []) ∞
     -- along Y, as the exchanged ones along X
-    ∷ cylinder (bar (at 0 12 10) (at 0 30 10) (mm 0)) (walks (mm 2) (mm 10) (mm 10) 1 0)
-    ∷ cylinder (bar (at 0 12 10) (at 0 30 10) thin) (walks (mm 2) nearly10 (mm 10) 1 1)
+    ∷ cylinder (bar (at 0 12 10) (at 0 30 10) (mm 0)) (walks (mm 2) (mm 10) (mm 10) 0 1 0)
+    ∷ cylinder (bar (at 0 12 10) (at 0 30 10) thin) (walks (mm 2) nearly10 (mm 10) 0 1 1)
     -- numbers 1 to 11
     ∷ section (mm 0 ∷ mm 10 ∷ mm 20 ∷ []) (room 8) (turned-down 1)
     ∷ section (mm 0 ∷ mm 10 ∷ []) (room 8) (turned-down 2)
@@ -146,7 +147,7 @@ readings =
 -- the definitions give every row
 pub all-readings : All readings
 unfolding add sub mul div neg lt le ofInt ofBits sqrt hypot isFinite
-    upto any closest closestPlaces segments surfaceStep surfaceNear crosses pointInside insideAxisEdge inSection
+    upto any closestPoint closest closestPlaces segments surfaceStep surfaceNear crosses pointInside insideAxisEdge inSection
     pointDistance sphereDistance clipSide clip edgeBox strictlyInsideAabb segmentThroughInterior boxGap boxPenetration boxWitness
     boxHolds resultOf boxDistance samePoint keep keptPoints sectionOf polygonOf
     refusal anyOf anyBelowAxis pointAnswer sphereAnswer boxAnswer sectionAnswer polygonAnswer

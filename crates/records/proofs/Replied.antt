@@ -1,11 +1,14 @@
 -- A reply that is made of an answer on the array's front is that of the answer which the definition gives; and number 3 of too
 -- many vertices. By what the answer promises.
-use Prim.Native.Nat.{ℕ, _*_, _<_}
+use Prim.Native.Nat.{ℕ, _*_, _<_, _≤_}
 use mathlib.Core.List.{List}
-use mathlib.Core.Path.{_≡_, _∙_, ap}
+use mathlib.Core.Logic.{_⊎_, inl, inr}
+use mathlib.Core.Path.{_≡_, _∙_, ap, subst, sym}
 use lib.ListN.{length, take}
 use lib.Ieee.{Float}
-use Rattle.profile.specs.Replies.{Reply, turned-down, Answers}
+use Rattle.roots.proofs.Numbers.{decide}
+use Rattle.profile.specs.Replies.{Reply, turned-down, Answers, OfValue}
+use Rattle.profile.proofs.Replies.{owed}
 use Rattle.profile.specs.declared.shapes.Vertex.{Vertex}
 use Rattle.records.specs.Flattened.{flattened}
 use Rattle.records.specs.Replies.{pointOf, sphereOf, boxOf, cylinderOf, cReply, cCylinderReply}
@@ -25,6 +28,17 @@ replied {R} told make answer same {l = l} {n = n} o e = record {
   front = λ h. e ∙ ap make (o .front h .equal ∙ ap (answer (take (2 * n) l)) same);
   many = λ h. e ∙ ap (λ (x : R). make (told x)) (o .many h);
 }
+
+-- what is owed of an answer on the front, and not of a refusal, is owed of the answer
+pub owed-front : {R A X : Type 0} (told : R → Reply A) (answer : List Float → X → Reply A) {x : X}
+    {Owed : List Float → A → Type 0} {Q : A → Type 0} → ((s : List Float) (a : A) → Owed s a → Q a) → {refusal a : R}
+    {l : List Float} {n : ℕ} → OfFront (λ s r. Answers (told r) (answer s x) (Owed s)) refusal l n a → OfValue Q (told refusal)
+    → OfValue Q (told a)
+owed-front {R} told answer {Owed = Owed} {Q = Q} weaker {a = a} {l = l} {n = n} o none = by (decide n 256)
+  where
+    by : (n ≤ 256) ⊎ (256 < n) → OfValue Q (told a)
+    by (inl h) = owed (Owed (take (2 * n) l)) Q (weaker (take (2 * n) l)) (told a) (o .front h .owed)
+    by (inr h) = subst (λ (r : R). OfValue Q (told r)) (sym (o .many h)) none
 
 module _ (xs : List Vertex) (h : 256 < length xs) where
   pub place-too-many : (x : Place) → OfPlace x (flattened xs) (cReply (turned-down 3))

@@ -34,14 +34,21 @@ cylinderOf x = bar (vec (x .ax) (x .ay) (x .az)) (vec (x .bx) (x .by) (x .bz)) (
 -- the hit and the number 0, or the number and nothing else
 abbrev pub cReply : Reply CollisionHit → c.Reply
 cReply (value h) =
-    record { distance = h .distance; «witness_z» = h .witness .z; «witness_radius» = h .witness .r; number = 0 }
-cReply (turned-down n) = record { distance = 𝟘; «witness_z» = 𝟘; «witness_radius» = 𝟘; number = n }
+    record {
+      distance = h .distance;
+      «witness_z» = h .witness .z;
+      «witness_radius» = h .witness .r;
+      edge = h .witness .edge;
+      number = 0;
+    }
+cReply (turned-down n) = record { distance = 𝟘; «witness_z» = 𝟘; «witness_radius» = 𝟘; edge = 0; number = n }
 
 abbrev pub cCylinderReply : Reply CountedHit → CylinderReply
 cCylinderReply (value h) = record {
   distance = h .hit .distance;
   «witness_z» = h .hit .witness .z;
   «witness_radius» = h .hit .witness .r;
+  edge = h .hit .witness .edge;
   boxes = h .boxes;
   waiting = h .waiting;
   number = 0;
@@ -51,6 +58,7 @@ cCylinderReply (turned-down n) = record {
   distance = 𝟘;
   «witness_z» = 𝟘;
   «witness_radius» = 𝟘;
+  edge = 0;
   boxes = 0;
   waiting = 0;
   number = n;

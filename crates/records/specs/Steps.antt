@@ -8,7 +8,7 @@ use lib.ListN.{set, take}
 use lib.Ieee.{Float}
 use Rattle.arith.specs.declared.vector.Vec3.{Vec3}
 use Rattle.section.specs.Answers.{told, pointAnswer, sphereAnswer, boxAnswer}
-use Rattle.section.specs.Demand.{Bounded, BoundedOffAxis}
+use Rattle.section.specs.Demand.{Bounded, BoundedOffAxis, FewEdges}
 use Rattle.profile.specs.Replies.{Answers}
 use Rattle.profile.specs.declared.shapes.Aabb.{Aabb}
 use Rattle.section.specs.declared.shapes.Answer.{Answer}
@@ -19,6 +19,7 @@ use Rattle.cylinders.specs.Cylinders.{told as cylinderTold, cylinderAnswer}
 use Rattle.bands.specs.declared.shapes.Cylinder.{Cylinder}
 use Rattle.settings.specs.Settings.{finest}
 use Rattle.cylinders.specs.declared.shapes.CountedAnswer.{CountedAnswer}
+use Rattle.walk.specs.declared.shapes.CountedHit.{CountedHit}
 use Rattle.records.specs.Replies.{pointOf, sphereOf, boxOf, cylinderOf, cReply, cCylinderReply}
 use Rattle.records.specs.declared.replies.Ball.{Ball}
 use Rattle.records.specs.declared.replies.Bar.{Bar}
@@ -43,10 +44,14 @@ abbrev pub OfSphere : Sphere → List Float → Answer → Type 0
 OfSphere b s r = Answers (told r) (sphereAnswer s b) (BoundedOffAxis s)
 
 abbrev pub OfBox : Aabb → List Float → Answer → Type 0
-OfBox x s r = Answers (told r) (boxAnswer s x) Bounded
+OfBox x s r = Answers (told r) (boxAnswer s x) (Bounded s)
 
 abbrev pub OfCylinder : Cylinder → List Float → CountedAnswer → Type 0
 OfCylinder c s r = Answers (cylinderTold r) (cylinderAnswer s c finest) (Promised s c finest)
+
+-- a cylinder's hit has an edge of at most 256
+abbrev pub FewEdgesOf : CountedHit → Type 0
+FewEdgesOf h = FewEdges (h .hit)
 
 -- the same of the C interface's replies
 abbrev pub OfPlace : Place → List Float → Reply → Type 0

@@ -79,7 +79,7 @@ pub fn box_front(items: &[f64; 512], n: usize, bounds: Aabb) -> Answer
 }
 
 pub fn aabb_polygon_distance_of(section: &[Vertex], bounds: Aabb) -> Answer
-    ensures { λ r. ⌜ Answers (told r) (boxAnswer (flattened (now (section .entry))) bounds) Bounded ⌝ }
+    ensures { λ r. ⌜ (let s = flattened (now (section .entry)) in Answers (told r) (boxAnswer s bounds) (Bounded s)) ⌝ }
 {
     let mut items = blank();
     let n = section.len();

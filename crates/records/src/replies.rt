@@ -1,8 +1,11 @@
 // Bodies and answers as the C interface has them: records of numbers, as C lays them out.
 ghost use mathlib.Core.Path.{_≡_};
+ghost use Rattle.profile.specs.Replies.{OfValue};
 ghost use Rattle.section.specs.Answers.{told};
+ghost use Rattle.section.specs.Demand.{FewEdges};
 ghost use Rattle.cylinders.specs.Cylinders.{told as cylinderTold};
 ghost use Rattle.records.specs.Replies as replies;
+ghost use Rattle.records.specs.Steps.{FewEdgesOf};
 use arith::Vec3;
 use bands::Cylinder;
 use cylinders::CountedAnswer;
@@ -51,6 +54,7 @@ pub struct Reply {
     pub distance: f64,
     pub witness_z: f64,
     pub witness_radius: f64,
+    pub edge: u32,
     pub number: u32,
 }
 
@@ -60,6 +64,7 @@ pub struct CylinderReply {
     pub distance: f64,
     pub witness_z: f64,
     pub witness_radius: f64,
+    pub edge: u32,
     pub boxes: usize,
     pub waiting: usize,
     pub number: u32,
@@ -117,15 +122,18 @@ pub fn cylinder_of(bar: Bar) -> Cylinder
 }
 
 pub fn reply_of(answer: Answer) -> Reply
+    requires { ⌜ OfValue FewEdges (told answer) ⌝ }
     ensures { λ r. ⌜ r ≡ replies.cReply (told answer) ⌝ }
 {
     match answer {
         Answer::Hit(h) => {
             let at = h.witness;
+            let edge = at.edge as u32;
             Reply {
                 distance: h.distance,
                 witness_z: at.z,
                 witness_radius: at.r,
+                edge,
                 number: 0,
             }
         }
@@ -133,22 +141,26 @@ pub fn reply_of(answer: Answer) -> Reply
             distance: 0.0,
             witness_z: 0.0,
             witness_radius: 0.0,
+            edge: 0,
             number,
         },
     }
 }
 
 pub fn cylinder_reply_of(answer: CountedAnswer) -> CylinderReply
+    requires { ⌜ OfValue FewEdgesOf (cylinderTold answer) ⌝ }
     ensures { λ r. ⌜ r ≡ replies.cCylinderReply (cylinderTold answer) ⌝ }
 {
     match answer {
         CountedAnswer::Hit(h) => {
             let hit = h.hit;
             let at = hit.witness;
+            let edge = at.edge as u32;
             CylinderReply {
                 distance: hit.distance,
                 witness_z: at.z,
                 witness_radius: at.r,
+                edge,
                 boxes: h.boxes,
                 waiting: h.waiting,
                 number: 0,
@@ -159,6 +171,7 @@ pub fn cylinder_reply_of(answer: CountedAnswer) -> CylinderReply
             distance: 0.0,
             witness_z: 0.0,
             witness_radius: 0.0,
+            edge: 0,
             boxes: 0,
             waiting: 0,
             number,

@@ -7,8 +7,8 @@ use Rattle.replay.specs.declared.ask.Reply.the-variants.{Number, Hit, Wa
 abbrev pub kept : Reply → ℕ
 kept (Kept n) = n
 kept (Number x) = 0
-kept (Hit d z r) = 0
-kept (Walked d z r boxes waiting cut) = 0
+kept (Hit d z r edge) = 0
+kept (Walked d z r edge boxes waiting cut) = 0
 kept (Verdict collision) = 0
 kept (Refused number) = 0
 kept Damaged = 0

@@ -21,10 +21,10 @@ pub const BLANK: f64 = 100.0;
 
 pub enum Reply {
     Number(f64),
-    // A distance, and its witness's z and radius.
-    Hit(f64, f64, f64),
+    // A distance, its witness's z and radius, and the witness's edge.
+    Hit(f64, f64, f64, usize),
     // The same, how many boxes were measured, how many pieces waited, and whether the walk was cut.
-    Walked(f64, f64, f64, usize, usize, bool),
+    Walked(f64, f64, f64, usize, usize, usize, bool),
     // Whether the body collides.
     Verdict(bool),
     // How many numbers a builder keeps, at the front of its space.
@@ -83,7 +83,10 @@ fn hit(answer: Answer) -> Reply
     ensures { λ r. ⌜ kept r ≡ 0 ⌝ }
 {
     match answer {
-        Answer::Hit(hit) => Reply::Hit(hit.distance, hit.witness.z, hit.witness.r),
+        Answer::Hit(hit) => {
+            let at = hit.witness;
+            Reply::Hit(hit.distance, at.z, at.r, at.edge)
+        }
         Answer::Refused(number) => Reply::Refused(number),
     }
 }
@@ -94,10 +97,12 @@ fn walked(answer: CountedAnswer) -> Reply
     match answer {
         CountedAnswer::Hit(walked) => {
             let hit = walked.hit;
+            let at = hit.witness;
             Reply::Walked(
                 hit.distance,
-                hit.witness.z,
-                hit.witness.r,
+                at.z,
+                at.r,
+                at.edge,
                 walked.boxes,
                 walked.waiting,
                 walked.cut,

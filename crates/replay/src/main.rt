@@ -16,11 +16,11 @@
 //     w n s.. ax ay az bx by bz radius tolerance most intervals
 //                               the distance of a cylinder with settings; the digits of most and of
 //                               intervals are the whole number itself
-// A distance is replied with its witness's z and radius, a cylinder's also with how many boxes were
-// measured, how many pieces waited at most, and 1 where the walk was cut, else 0, in decimal; a
-// verdict with 1, a collision, or 0; a builder with the count of the numbers that it keeps, in
-// decimal, and these, or with `damaged` where it changed any other number of its space. What is
-// turned down is `refused` and the number.
+// A distance is replied with its witness's z and radius and, in decimal, the number of the witness's
+// edge, a cylinder's also with how many boxes were measured, how many pieces waited at most, and 1
+// where the walk was cut, else 0, in decimal; a verdict with 1, a collision, or 0; a builder with the
+// count of the numbers that it keeps, in decimal, and these, or with `damaged` where it changed any
+// other number of its space. What is turned down is `refused` and the number.
 ghost use Prim.Native.Nat.{_≤_};
 ghost use lib.ListN.{length};
 ghost use Rattle.replay.specs.Lines.{Within};
@@ -72,10 +72,11 @@ fn print_flag(flag: bool) {
     }
 }
 
-fn print_hit(distance: f64, z: f64, r: f64) {
+fn print_hit(distance: f64, z: f64, r: f64, edge: usize) {
     print_number(distance);
     print_next(z);
     print_next(r);
+    print_next_count(edge);
 }
 
 fn print_walk(boxes: usize, waiting: usize, cut: bool) {
@@ -103,9 +104,9 @@ fn print_refused(number: u32) {
 fn print(reply: Reply, kept: &[f64]) {
     match reply {
         Reply::Number(x) => print_number(x),
-        Reply::Hit(distance, z, r) => print_hit(distance, z, r),
-        Reply::Walked(distance, z, r, boxes, waiting, cut) => {
-            print_hit(distance, z, r);
+        Reply::Hit(distance, z, r, edge) => print_hit(distance, z, r, edge),
+        Reply::Walked(distance, z, r, edge, boxes, waiting, cut) => {
+            print_hit(distance, z, r, edge);
             print_walk(boxes, waiting, cut);
         }
         Reply::Verdict(collision) => print_flag(collision),

@@ -40,7 +40,7 @@ pub fn query_sphere(section: &[f64], sphere: Sphere) -> Answer
 }
 
 pub fn aabb_polygon_distance(z0: f64, z1: f64, r0: f64, r1: f64, polygon: &[f64]) -> Answer
-    ensures { λ r. ⌜ Answers (told r) (boxAnswer (now (polygon .entry)) (aabb z0 z1 r0 r1)) Bounded ⌝ }
+    ensures { λ r. ⌜ (let s = now (polygon .entry) in Answers (told r) (boxAnswer s (aabb z0 z1 r0 r1)) (Bounded s)) ⌝ }
 {
     let x = Aabb { z0, z1, r0, r1 };
     let none = [0.0; 0];
@@ -52,7 +52,7 @@ pub fn aabb_polygon_distance(z0: f64, z1: f64, r0: f64, r1: f64, polygon: &[f64]
 }
 
 pub fn convex_polygon_distance(convex: &[f64], polygon: &[f64]) -> Answer
-    ensures { λ r. ⌜ Answers (told r) (convexAnswer (now (convex .entry)) (now (polygon .entry))) Bounded ⌝ }
+    ensures { λ r. ⌜ (let s = now (polygon .entry) in Answers (told r) (convexAnswer (now (convex .entry)) s) (Bounded s)) ⌝ }
 {
     let none = [0.0; 0];
     let number = convex_refusal(convex, polygon, &none);

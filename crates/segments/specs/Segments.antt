@@ -5,8 +5,9 @@ use lib.Ieee.{Float, binary64, neg}
 use Rattle.arith.specs.F64.{_⊕_, _⊖_, _⊗_, _⊘_, _≺_, _≼_, 𝟘, 𝟙, e-18, e-24}
 use Rattle.arith.specs.Num.{abs, clamp}
 use Rattle.roots.specs.Roots.{hypot}
-use Rattle.profile.specs.Vertices.{vertex, hit}
+use Rattle.profile.specs.Vertices.{vertex, on, hit}
 use Rattle.profile.specs.declared.shapes.Vertex.{Vertex}
+use Rattle.profile.specs.declared.shapes.Edge.{Edge}
 use Rattle.profile.specs.declared.shapes.CollisionHit.{CollisionHit}
 use Rattle.segments.specs.declared.shapes.Places.{Places}
 
@@ -27,11 +28,16 @@ abbrev pub unitClamp : Float → Float
 unitClamp t = clamp t 𝟘 𝟙
 
 -- 01's closest point: of the segment from a to b, the point closest to p. Squared length ≤ 1e-24 uses the first end.
-unfoldable pub closest : Vertex → Vertex → Vertex → CollisionHit
-closest p a b =
+unfoldable pub closestPoint : Vertex → Vertex → Vertex → Vertex
+closestPoint p a b =
     let d = minus b a in
-    let q = cond (dot d d ≼ e-24) a (along a b (unitClamp (dot (minus p a) d ⊘ dot d d))) in
-    hit (apart p q) q
+    cond (dot d d ≼ e-24) a (along a b (unitClamp (dot (minus p a) d ⊘ dot d d)))
+
+-- that of an edge is the witness
+unfoldable pub closest : Vertex → Edge → CollisionHit
+closest p e =
+    let q = closestPoint p (e .a) (e .b) in
+    hit (apart p q) (on (e .number) q)
 
 abbrev pub places : Float → Float → Places
 places s t = record { s = s; t = t }
@@ -52,12 +58,14 @@ closestPlaces a b c e f =
     (cond (t ≺ 𝟘) atFirstEnd
     (cond (𝟙 ≺ t) atLastEnd (places s t))))
 
--- 01's two segments: the point on the first, from p to p′, which is always the section's edge, is the witness
-unfoldable pub segments : Vertex → Vertex → Vertex → Vertex → CollisionHit
-segments p p′ q q′ =
+-- 01's two segments: the point on the first, which is always the section's edge, is the witness
+unfoldable pub segments : Edge → Vertex → Vertex → CollisionHit
+segments edge q q′ =
+    let p = edge .a in
+    let p′ = edge .b in
     let d = minus p′ p in
     let d′ = minus q′ q in
     let r = minus p q in
     let at = closestPlaces (dot d d) (dot d d′) (dot d r) (dot d′ d′) (dot d′ r) in
-    let on = along p p′ (at .s) in
-    hit (apart on (along q q′ (at .t))) on
+    let first = along p p′ (at .s) in
+    hit (apart first (along q q′ (at .t))) (on (edge .number) first)

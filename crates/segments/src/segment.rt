@@ -4,12 +4,15 @@ ghost use mathlib.Core.Bool.{cond};
 ghost use lib.Ieee.{neg};
 ghost use Rattle.arith.specs.F64.{_⊕_, _⊗_, _⊘_, _≺_, 𝟘, e-18};
 ghost use Rattle.arith.specs.Num as num;
+ghost use Rattle.profile.specs.Vertices as profile;
 ghost use Rattle.profile.specs.Vertices.{vertex, hit, nearer};
-ghost use Rattle.segments.specs.Segments.{dot, along, apart, unitClamp, closest};
+ghost use Rattle.segments.specs.Segments.{dot, along, apart, unitClamp, closestPoint, closest};
 ghost use Rattle.segments.specs.Segments.{places, closestPlaces, segments};
 use super::shapes::Places;
 use profile::CollisionHit;
+use profile::Edge;
 use profile::Vertex;
+use profile::on;
 
 fn dot2(a: Vertex, b: Vertex) -> f64
     ensures { λ r. ⌜ r ≡ dot a b ⌝ }
@@ -36,10 +39,10 @@ fn advance(a: Vertex, d: Vertex, t: f64) -> Vertex
     }
 }
 
-// The point w, at the distance of p and q, where that is less than best. A hypot is no less than
+// The point w of edge k, at the distance of p and q, where that is less than best. A hypot is no less than
 // either leg, and its square about the sum of theirs, so that most need no root.
-fn nearer_between(best: CollisionHit, p: Vertex, q: Vertex, w: Vertex) -> CollisionHit
-    ensures { λ r. ⌜ r ≡ nearer best (hit (apart p q) w) ⌝ }
+fn nearer_between(best: CollisionHit, p: Vertex, q: Vertex, k: usize, w: Vertex) -> CollisionHit
+    ensures { λ r. ⌜ r ≡ nearer best (hit (apart p q) (profile.on k w)) ⌝ }
 {
     let least = best.distance;
     let dz = p.z - q.z;
@@ -57,7 +60,7 @@ fn nearer_between(best: CollisionHit, p: Vertex, q: Vertex, w: Vertex) -> Collis
     if distance < least {
         return CollisionHit {
             distance,
-            witness: w,
+            witness: on(k, w),
         };
     }
     best
@@ -89,7 +92,7 @@ fn unit_clamp(t: f64) -> f64
 }
 
 pub fn closest_point(p: Vertex, a: Vertex, b: Vertex) -> Vertex
-    ensures { λ r. ⌜ r ≡ closest p a b .witness ⌝ }
+    ensures { λ r. ⌜ r ≡ closestPoint p a b ⌝ }
 {
     let az = a.z;
     let ar = a.r;
@@ -106,12 +109,12 @@ pub fn closest_point(p: Vertex, a: Vertex, b: Vertex) -> Vertex
     }
 }
 
-// The segment from a to b may be nearer to p.
-pub fn point_segment(p: Vertex, a: Vertex, b: Vertex, best: CollisionHit) -> CollisionHit
-    ensures { λ r. ⌜ r ≡ nearer best (closest p a b) ⌝ }
+// The edge may be nearer to p.
+pub fn point_segment(p: Vertex, edge: Edge, best: CollisionHit) -> CollisionHit
+    ensures { λ r. ⌜ r ≡ nearer best (closest p edge) ⌝ }
 {
-    let q = closest_point(p, a, b);
-    nearer_between(best, p, q, q)
+    let q = closest_point(p, edge.a, edge.b);
+    nearer_between(best, p, q, edge.number, q)
 }
 
 // Where on the first segment to start: 0 where the two are nearly parallel.
@@ -162,16 +165,17 @@ fn closest_places(a: f64, b: f64, c: f64, e: f64, f: f64) -> Places
     Places { s, t }
 }
 
-// The second segment may be nearer to the first, at a point of the first.
+// The second segment may be nearer to the edge, at a point of the edge.
 pub fn seg_seg_point_on_first(
-    p1: Vertex,
-    q1: Vertex,
+    edge: Edge,
     p2: Vertex,
     q2: Vertex,
     best: CollisionHit,
 ) -> CollisionHit
-    ensures { λ r. ⌜ r ≡ nearer best (segments p1 q1 p2 q2) ⌝ }
+    ensures { λ r. ⌜ r ≡ nearer best (segments edge p2 q2) ⌝ }
 {
+    let p1 = edge.a;
+    let q1 = edge.b;
     let d1 = Vertex {
         z: q1.z - p1.z,
         r: q1.r - p1.r,
@@ -193,5 +197,5 @@ pub fn seg_seg_point_on_first(
     );
     let on_first = advance(p1, d1, at.s);
     let on_second = advance(p2, d2, at.t);
-    nearer_between(best, on_first, on_second, on_first)
+    nearer_between(best, on_first, on_second, edge.number, on_first)
 }

@@ -8,7 +8,7 @@ use lib.Ieee.{binary64, add, sub, mul, div, neg, lt, le, eq, ofInt, ofBits, toBi
 use Rattle.arith.specs.Num.{isFinite}
 use Rattle.roots.specs.Roots.{hypot}
 use Rattle.profile.specs.Vertices.{upto, any}
-use Rattle.segments.specs.Segments.{closest, closestPlaces, segments}
+use Rattle.segments.specs.Segments.{closestPoint, closest, closestPlaces, segments}
 use Rattle.points.specs.Points.{surfaceStep, surfaceNear, crosses, pointInside, insideAxisEdge, inSection, pointDistance}
 use Rattle.segments.specs.Clip.{clipSide, clip}
 use Rattle.boxes.specs.Boxes.{edgeBox, strictlyInsideAabb, segmentThroughInterior, boxGap, boxPenetration, boxWitness, boxHolds}
@@ -24,7 +24,8 @@ use Rattle.store.specs.Kinds.{rightKind}
 use Rattle.store.specs.Radii.{belowAxis}
 use Rattle.store.specs.Store.{vertices, lengthAnswer, sectionAnswer, storeAnswer, chained}
 use Rattle.store_listing.specs.Text.{text, decimalAtMost, decimal, hex, bits}
-use Rattle.store_listing.specs.Listing.{bodyAnswer, fieldText, hitText, bodyLine, sectionLine, refusalLine, acceptedText, listing}
+use Rattle.store_listing.specs.Listing.{bodyAnswer, fieldText, edgeText, hitText, bodyLine, sectionLine, refusalLine}
+use Rattle.store_listing.specs.Listing.{acceptedText, listing}
 
 -- the n low bytes of x, the lowest first
 unfoldable pub lowBytes : ℕ → ℕ → List ℕ
@@ -45,11 +46,11 @@ example =
     ++ recordBytes 5 1 (0 ∷ 0 ∷ 0 ∷ 0 ∷ [])
     ++ recordBytes 0 3 (25 ∷ 30 ∷ 0 ∷ 5 ∷ [])
 
-pub example-lists : listing example ≡ text "section 4\n5 4014000000000000 4034000000000000 0000000000000000\n"
-unfolding add sub mul div neg lt le eq ofInt ofBits toBits isFinite hypot upto any closest closestPlaces segments
+pub example-lists : listing example ≡ text "section 4\n5 4014000000000000 4034000000000000 0000000000000000 1\n"
+unfolding add sub mul div neg lt le eq ofInt ofBits toBits isFinite hypot upto any closestPoint closest closestPlaces segments
     surfaceStep surfaceNear crosses pointInside insideAxisEdge inSection pointDistance clipSide clip edgeBox
     strictlyInsideAabb segmentThroughInterior boxGap boxPenetration boxWitness boxHolds resultOf boxDistance anyOf
     anyBelowAxis refusal boxAnswer littleEndian next kind number follow chain rightKind firstRefused belowAxis vertices
-    lengthAnswer sectionAnswer storeAnswer chained text decimalAtMost decimal hex bits bodyAnswer fieldText hitText bodyLine sectionLine refusalLine
-    acceptedText listing lowBytes recordBytes example flatMap
+    lengthAnswer sectionAnswer storeAnswer chained text decimalAtMost decimal hex bits bodyAnswer fieldText edgeText hitText
+    bodyLine sectionLine refusalLine acceptedText listing lowBytes recordBytes example flatMap
 example-lists = refl

@@ -32,7 +32,7 @@ module _
     (b : List ℕ) {ks : List ℕ} {s : List Float} (good : storeAnswer b ≡ Accepted) (order : ks ≡ chained b)
     (section : s ≡ vertices b ks)
   where
-    pub listing-room : (given : List ℕ) → length given ≡ 27848 → length (acceptedText b s ks) ≤ length given
+    pub listing-room : (given : List ℕ) → length given ≡ 28923 → length (acceptedText b s ks) ≤ length given
     listing-room given size = rw (section, order, size) (every-listing-fits b good)
 
     same-text : listing b ≡ acceptedText b s ks
@@ -40,7 +40,7 @@ module _
     same-text = rw (good, section, order)
 
     pub listed :
-        (given : List ℕ) {after : List ℕ} {r : ℕ} → length given ≡ 27848 → Written given 0 (acceptedText b s ks) after r
+        (given : List ℕ) {after : List ℕ} {r : ℕ} → length given ≡ 28923 → Written given 0 (acceptedText b s ks) after r
         → StoreListed b given (Bytes r) after
     listed given size written =
         let printed = front-written written (listing-room given size) in
@@ -86,5 +86,5 @@ unfolding refusalLine text
 refusal-short n k hn hk =
     simp length-append (omega (arith, few-digits 9 n (omega arith), few-digits 9 k (omega arith)))
 
-pub line-room : {room : ℕ} (n k : ℕ) → n < 2 ^ 32 → k < 2 ^ 32 → room ≡ 27848 → length (refusalLine n k) ≤ room
+pub line-room : {room : ℕ} (n k : ℕ) → n < 2 ^ 32 → k < 2 ^ 32 → room ≡ 28923 → length (refusalLine n k) ≤ room
 line-room n k hn hk size = omega (arith, refusal-short n k hn hk)

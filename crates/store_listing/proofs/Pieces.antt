@@ -10,7 +10,7 @@ use Rattle.section.specs.Answers.{told}
 use Rattle.section.specs.declared.shapes.Answer.{Answer}
 use Rattle.section.specs.declared.shapes.Answer.the-variants.{Hit, Refused}
 use Rattle.store_listing.specs.Text.{text, decimal}
-use Rattle.store_listing.specs.Listing.{bodyAnswer, fieldText, hitText, answerText, bodyLine}
+use Rattle.store_listing.specs.Listing.{bodyAnswer, fieldText, edgeText, hitText, answerText, bodyLine}
 use Rattle.store_listing.specs.Steps.{Written}
 use Rattle.store_listing.proofs.Digits.{length-bits}
 use Rattle.store.proofs.Lists.{flatMap-append, flatMap-more}
@@ -21,7 +21,11 @@ pub length-field : (x : Float) → length (fieldText x) ≡ 17
 unfolding fieldText text
 length-field x = omega (arith, length-bits x)
 
-pub length-hit : (h : CollisionHit) → length (hitText h) ≡ 51
+pub length-edge : (k : ℕ) → length (edgeText k) ≡ 1 + length (decimal k)
+unfolding edgeText text
+length-edge k = omega (arith, length-append (text " ") (decimal k))
+
+pub length-hit : (h : CollisionHit) → length (hitText h) ≡ 52 + length (decimal (h .witness .edge))
 unfolding hitText
 length-hit h =
     simp length-append (omega (
@@ -29,11 +33,12 @@ length-hit h =
       length-field (h .distance),
       length-field (h .witness .z),
       length-field (h .witness .r),
+      length-edge (h .witness .edge),
     ))
 
 module _ (at : ℕ) (a : Answer) {most : ℕ} (room : at + length (answerText (told a)) ≤ most) where
-  pub hit-room : {h : CollisionHit} → a ≡ Hit h → at + 51 ≤ most
-  hit-room {h} e = omega (arith, length-hit h, rw e at room)
+  pub hit-room : {h : CollisionHit} → a ≡ Hit h → at + length (hitText h) ≤ most
+  hit-room e = rw e at room
 
   pub refused-room : {n : ℕ} → a ≡ Refused n → at + length (text " refused " ++ decimal n) ≤ most
   refused-room e = rw e at room

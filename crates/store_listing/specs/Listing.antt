@@ -40,9 +40,13 @@ bodyAnswer b s k = cond (isSphere b k) (sphereAnswer s (sphereAt b k)) (boxAnswe
 unfoldable pub fieldText : Float → List ℕ
 fieldText x = text " " ++ bits x
 
--- distance, witness z, witness radius
+unfoldable pub edgeText : ℕ → List ℕ
+edgeText k = text " " ++ decimal k
+
+-- distance, witness z, witness radius, edge
 unfoldable pub hitText : CollisionHit → List ℕ
-hitText h = fieldText (h .distance) ++ fieldText (h .witness .z) ++ fieldText (h .witness .r)
+hitText h =
+    fieldText (h .distance) ++ fieldText (h .witness .z) ++ fieldText (h .witness .r) ++ edgeText (h .witness .edge)
 
 abbrev pub answerText : Reply CollisionHit → List ℕ
 answerText (value h) = hitText h

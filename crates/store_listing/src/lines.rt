@@ -3,7 +3,7 @@ ghost use mathlib.Core.List.{flatMap};
 ghost use Prim.Native.Nat.{_+_, _≤_};
 ghost use lib.ListN.{length};
 ghost use Rattle.section.specs.Answers.{told};
-ghost use Rattle.store_listing.specs.Listing.{answerText, fieldText, hitText, bodyLine, recordLine};
+ghost use Rattle.store_listing.specs.Listing.{answerText, fieldText, edgeText, hitText, bodyLine, recordLine};
 ghost use Rattle.store_listing.specs.Listing.{sectionLine, refusalLine};
 ghost use Rattle.store_listing.specs.Steps.{Written};
 use super::bodies::body_answer;
@@ -23,15 +23,25 @@ fn put_field(text: &mut [u8], at: usize, x: f64) -> usize
     put_bits(text, a, x)
 }
 
-// Distance, witness z, witness radius.
+// A space, and the number of an edge.
+fn put_edge(text: &mut [u8], at: usize, k: usize) -> usize
+    requires { ⌜ at + length (edgeText k) ≤ length (now text) ⌝ }
+    ensures { λ r. ⌜ Written (now (text .entry)) at (edgeText k) (now (text .exit)) r ⌝ }
+{
+    let a = put_word(text, at, b" ");
+    put_decimal(text, a, k as u64)
+}
+
+// Distance, witness z, witness radius, edge.
 fn put_hit(text: &mut [u8], at: usize, hit: CollisionHit) -> usize
-    requires { ⌜ at + 51 ≤ length (now text) ⌝ }
+    requires { ⌜ at + length (hitText hit) ≤ length (now text) ⌝ }
     ensures { λ r. ⌜ Written (now (text .entry)) at (hitText hit) (now (text .exit)) r ⌝ }
 {
     let witness = hit.witness;
     let a = put_field(text, at, hit.distance);
     let b = put_field(text, a, witness.z);
-    put_field(text, b, witness.r)
+    let c = put_field(text, b, witness.r);
+    put_edge(text, c, witness.edge)
 }
 
 fn put_answer(text: &mut [u8], at: usize, answer: Answer) -> usize

@@ -24,8 +24,9 @@ fn put_accepted(store: &[u8], s: &[f64], order: &[u32], text: &mut [u8]) -> usiz
 }
 
 // How many bytes the listing has, at the front of the text, or the refusal, with the text as it
-// was. No listing is longer than the text: 508 bodies beside 3 vertices, with the longest indices.
-pub fn list_store(store: &[u8], text: &mut [u8; 27848]) -> ListAnswer
+// was. No listing is longer than the text: 500 bodies beside 11 vertices, with the longest indices and
+// edge 10.
+pub fn list_store(store: &[u8], text: &mut [u8; 28923]) -> ListAnswer
     ensures { λ r. ⌜ StoreListed (now (store .entry)) (now (text .entry)) r (now (text .exit)) ⌝ }
 {
     let mut order = [0u32; 512];
@@ -54,7 +55,7 @@ pub fn refusal_line(number: u32, k: u32, text: &mut [u8; 33]) -> usize
 }
 
 // Puts what the listing program prints of a store: its listing, or the line of its refusal.
-fn put_listing(store: &[u8], text: &mut [u8; 27848]) -> usize
+fn put_listing(store: &[u8], text: &mut [u8; 28923]) -> usize
     ensures { λ r. ⌜ Prints (listing·specs.listing (now (store .entry))) (now (text .entry)) (now (text .exit)) r ⌝ }
 {
     let answer = list_store(store, text);
@@ -66,7 +67,7 @@ fn put_listing(store: &[u8], text: &mut [u8; 27848]) -> usize
 
 // The same of an input of n bytes that went into the buffer as far as it reaches. The buffer holds
 // the largest store, so that what is longer is none.
-pub fn list_input(buffer: &[u8; 20480], n: usize, text: &mut [u8; 27848]) -> usize
+pub fn list_input(buffer: &[u8; 20480], n: usize, text: &mut [u8; 28923]) -> usize
     ensures { λ r. ⌜ Prints (inputListing n (now (buffer .entry))) (now (text .entry)) (now (text .exit)) r ⌝ }
 {
     let room: &[u8] = buffer;

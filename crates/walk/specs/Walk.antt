@@ -8,7 +8,7 @@ use lib.IntN.{pos}
 use lib.Ieee.{Float, binary64, ofInt}
 use Rattle.arith.specs.F64.{_⊕_, _⊖_, _⊗_, _⊘_, _≺_, _≼_, 𝟘, ∞, e-12, e-15}
 use Rattle.arith.specs.Num.{min}
-use Rattle.profile.specs.Vertices.{vertex, hit, upto, nearer, nearestOf}
+use Rattle.profile.specs.Vertices.{vertex, on, hit, upto, nearer, nearestOf}
 use Rattle.points.specs.Points.{pointDistance}
 use Rattle.boxes.specs.Boxes.{boxDistance}
 use Rattle.profile.specs.declared.shapes.Vertex.{Vertex}
@@ -76,11 +76,11 @@ abbrev pub start : CollisionHit → Walk
 start best = record { best = best; least = ∞; most = 1; seen = []; cut = false }
 
 module _ (s : List Float) (b : RadialBand) where
-  -- strictly smallest first, over the samples in order
+  -- strictly smallest first, over the samples in order; the first witness is (zc, 0), with edge 0
   unfoldable pub sampled : ℕ → CollisionHit
   sampled n =
       upto (λ i best. nearestOf (λ j. pointDistance s (sampleVertex b (sampleZ b n i) j)) best 3)
-      (hit ∞ (vertex (b .zc) 𝟘)) (suc n)
+      (hit ∞ (on 0 (vertex (b .zc) 𝟘))) (suc n)
 
   -- the box of a piece is measured
   abbrev pub boxHit : Piece → CollisionHit

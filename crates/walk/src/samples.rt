@@ -9,6 +9,7 @@ use bands::RadialBand;
 use points::signed_distance_2d;
 use profile::CollisionHit;
 use profile::Vertex;
+use profile::Witness;
 use profile::nearer_of;
 
 // At z the least, the greatest and the mean radius, against the best so far.
@@ -50,7 +51,11 @@ pub fn sampled(s: &[f64], b: RadialBand, n: usize) -> CollisionHit
 {
     let mut best = CollisionHit {
         distance: arith::infinity(),
-        witness: Vertex { z: b.zc, r: 0.0 },
+        witness: Witness {
+            z: b.zc,
+            r: 0.0,
+            edge: 0,
+        },
     };
     let mut i = 0;
     while i <= n {

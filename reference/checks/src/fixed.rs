@@ -2,7 +2,8 @@
 
 mod low;
 
-use crate::query::{Answer, Kind, Query, numbers_of};
+use crate::answer::Answer;
+use crate::query::{Kind, Query, numbers_of};
 use crate::random::Random;
 use crate::{generate, judge, near};
 use std::collections::BTreeMap;
@@ -20,6 +21,8 @@ const REFUSALS: usize = 3;
 const SMALL: usize = 24;
 const LARGE: usize = 128;
 const LARGEST: usize = 600;
+/// The largest space of a builder that `replay` can lend.
+const SPACE: usize = 1024;
 
 /// The numbers that a kind can be refused with.
 pub fn refusals(kind: Kind) -> &'static [u32] {
@@ -77,7 +80,48 @@ fn readings() -> Vec<Query> {
     all.push(query(Kind::VerdictCylinder, &[0.0, 0.0, 0.0, 1.0, 0.0, 1.0, -1.0, f64::NAN]));
     all.extend(settings().map(|(body, set)| query(Kind::SetCylinder, &[body.as_slice(), &numbers_of(set)].concat())));
     all.extend(low::queries());
+    all.extend(edges());
     all
+}
+
+/// S from its axis edge on, with a vertex that comes twice, with an edge there and back, and turned the other way, each beside
+/// bodies that are equally near to several edges, touch a corner, or hold vertices.
+fn edges() -> impl Iterator<Item = Query> {
+    let sections = [
+        vec![20.0, 0.0, 0.0, 0.0, 0.0, 10.0, 20.0, 10.0],
+        vec![20.0, 10.0, 20.0, 10.0, 20.0, 0.0, 0.0, 0.0, 0.0, 10.0, 0.0, 10.0],
+        vec![0.0, 10.0, 20.0, 10.0, 0.0, 10.0, 20.0, 10.0, 20.0, 0.0, 0.0, 0.0],
+        vec![0.0, 0.0, 20.0, 0.0, 20.0, 10.0, 0.0, 10.0],
+    ];
+    let points = [[0.0, 0.0, 10.0], [14.0, 0.0, 23.0], [14.0, 0.0, -3.0], [0.0, 0.0, 30.0], [10.0, 0.0, 20.0]];
+    let boxes = [
+        [25.0, 30.0, 0.0, 5.0],
+        [20.0, 25.0, 10.0, 15.0],
+        [-5.0, 25.0, 5.0, 15.0],
+        [-5.0, 26.0, -5.0, 16.0],
+        [16.0, 30.0, 9.0, 12.0],
+        [5.0, 15.0, 12.0, 14.0],
+        [5.0, 15.0, -4.0, -2.0],
+        [0.0, 20.0, 0.0, 10.0],
+    ];
+    let cylinders = [
+        [15.0, 0.0, 0.0, 15.0, 0.0, 30.0, 2.0],
+        [0.0, 0.0, -5.0, 0.0, 0.0, 30.0, 12.0],
+        [12.0, 0.0, 20.0, 30.0, 0.0, 20.0, 0.0],
+        [0.0, 12.0, 20.0, 0.0, 30.0, 20.0, 1e-15],
+        [0.0, 0.0, 20.0, 30.0, 0.0, 20.0, 1.0],
+        [0.0, -30.0, 20.0, 0.0, 30.0, 20.0, 1.0],
+    ];
+    sections.into_iter().flat_map(move |s| {
+        let query = |kind, numbers: &[f64]| Query::new(kind, std::slice::from_ref(&s), numbers);
+        let corners = |[z0, z1, r0, r1]: [f64; 4]| vec![z0, r0, z1, r0, z1, r1, z0, r1];
+        let mut all: Vec<Query> = points.iter().map(|point| query(Kind::Point, point)).collect();
+        all.extend(points.map(|[x, y, z]| query(Kind::Sphere, &[x, y, z, 4.0])));
+        all.extend(boxes.map(|bounds| query(Kind::Box, &bounds)));
+        all.extend(boxes.map(|bounds| Query::new(Kind::Convex, &[corners(bounds), s.clone()], &[])));
+        all.extend(cylinders.map(|body| query(Kind::Cylinder, &body)));
+        all
+    })
 }
 
 /// Cylinders beside S, along the spindle and across it both ways, a line, one that is turned down; each at the edges of the
@@ -178,7 +222,7 @@ fn drawn(random: &mut Random, kind: Kind) -> Vec<Query> {
         let query = generate::query(random, kind);
         let numbers = query.lists.iter().map(Vec::len).sum::<usize>();
         let keep = match judge::expected(&query) {
-            _ if numbers > LARGEST => false,
+            _ if numbers > LARGEST || query.space > SPACE => false,
             Answer::Refused(number) => {
                 let count = refused.entry(number).or_default();
                 *count += 1;

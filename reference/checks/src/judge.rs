@@ -1,10 +1,13 @@
-//! The expected answer: numbers from the table, all else from the published Rust with the exact hypot; of a cylinder with
-//! settings from the second implementation of the walk, which at the finest has to agree with the Rust.
+//! The expected answer: numbers from the table, all else from the published Rust with the exact hypot. The edge of a hit comes
+//! from document 01's steps, whose distance and witness have to be the Rust's; a cylinder from the second implementation of the
+//! walk, which at the finest settings has to agree with the Rust.
 
-use crate::query::{Answer, FILL, Kind, Query};
+use crate::answer::Answer;
+use crate::query::{FILL, Kind, Query};
 use crate::walk::{self, Walked};
-use revolve_exact::probe::{self, Hit};
-use revolve_exact::{RevolvedSolid, Sphere, Vec3, aabb_polygon_distance, convex_polygon_distance};
+use edges::Hit;
+use revolve_exact::probe;
+use revolve_exact::{RevolvedSolid, Sphere, Vec3, aabb_polygon_distance};
 use revolve_traced as traced;
 
 /// A list as the Rust takes it.
@@ -46,65 +49,66 @@ fn accepted(query: &Query) -> Result<(), u32> {
 
 fn answer(query: &Query) -> Option<Answer> {
     match query.kind {
-        Kind::Sqrt => Some(Answer::Values(vec![exact_hypot::sqrt(query.numbers[0])])),
-        Kind::Hypot => Some(Answer::Values(vec![exact_hypot::hypot(query.numbers[0], query.numbers[1])])),
-        Kind::Point => point(query).map(values),
-        Kind::Sphere => sphere(query).map(values),
-        Kind::Box => aabb(query).map(values),
-        Kind::Convex => convex(query).map(values),
+        Kind::Sqrt => Some(Answer::Root(exact_hypot::sqrt(query.numbers[0]))),
+        Kind::Hypot => Some(Answer::Root(exact_hypot::hypot(query.numbers[0], query.numbers[1]))),
+        Kind::Point => edges::point(&section(query), query.array()).map(Answer::Hit),
+        Kind::Sphere => sphere(query).map(Answer::Hit),
+        Kind::Box => aabb(query).map(Answer::Hit),
+        Kind::Convex => convex(query).map(Answer::Hit),
         Kind::Section => built(query, table::build_section, RevolvedSolid::try_from_section),
         Kind::Polygon => built(query, table::build_polygon, try_from_raised),
-        Kind::Cylinder => {
-            let (hit, trace) = cylinder(query)?;
-            Some(walked(Walked { hit, boxes: trace.boxes, waiting: trace.waiting, cut: trace.cut }))
-        }
-        Kind::VerdictSphere => verdict(query, sphere(query)?.0),
-        Kind::VerdictBox => verdict(query, aabb(query)?.0),
-        Kind::VerdictCylinder => verdict(query, cylinder(query)?.0.0),
-        Kind::VerdictConvex => verdict(query, convex(query)?.0),
-        Kind::SetCylinder => set_cylinder(query),
+        Kind::Cylinder => cylinder(query, table::FINEST),
+        Kind::VerdictSphere => verdict(query, sphere(query)?.distance),
+        Kind::VerdictBox => verdict(query, aabb(query)?.distance),
+        Kind::VerdictCylinder => verdict(query, rust_cylinder(query)?.0.0),
+        Kind::VerdictConvex => verdict(query, convex(query)?.distance),
+        Kind::SetCylinder => cylinder(query, query.settings()),
     }
 }
 
-fn walked(walked: Walked) -> Answer {
-    let (distance, witness) = walked.hit;
-    Answer::Walked([distance, witness.0, witness.1], [walked.boxes, walked.waiting, u32::from(walked.cut)])
-}
-
-fn set_cylinder(query: &Query) -> Option<Answer> {
-    let vertices = vertices(&query.lists[0]);
-    let second = walked(walk::cylinder(&walk::Section::new(&vertices), query.array(), query.settings())?);
-    if query.settings() == table::FINEST {
-        let rust = answer(&Query::new(Kind::Cylinder, &query.lists, &query.numbers[..7]))?;
-        assert!(second.same(&rust), "the two walks differ: {}", query.line());
-    }
-    Some(second)
-}
-
-fn values((distance, (witness_z, witness_radius)): Hit) -> Answer {
-    Answer::Values(vec![distance, witness_z, witness_radius])
-}
-
-fn point(query: &Query) -> Option<Hit> {
-    let [x, y, z] = query.array();
-    probe::point(&probe::solid(&vertices(&query.lists[0])), Vec3::new(x, y, z))
+fn section(query: &Query) -> Vec<(f64, f64)> {
+    vertices(query.lists.last().expect("every query beside a section has one"))
 }
 
 fn sphere(query: &Query) -> Option<Hit> {
-    let [x, y, z, radius] = query.array();
-    probe::sphere(&probe::solid(&vertices(&query.lists[0])), Sphere { center: Vec3::new(x, y, z), radius })
+    edges::sphere(&section(query), query.array())
 }
 
 fn aabb(query: &Query) -> Option<Hit> {
-    let [z0, z1, r0, r1] = query.array();
-    aabb_polygon_distance(z0, z1, r0, r1, &vertices(&query.lists[0]))
+    edges::aabb(&section(query), query.array())
 }
 
 fn convex(query: &Query) -> Option<Hit> {
-    convex_polygon_distance(&vertices(&query.lists[0]), &vertices(&query.lists[1]))
+    edges::convex(&vertices(&query.lists[0]), &section(query))
 }
 
-fn cylinder(query: &Query) -> Option<(Hit, traced::trace::Trace)> {
+fn cylinder(query: &Query, settings: table::Settings) -> Option<Answer> {
+    let walked = walk::cylinder(&section(query), query.array(), settings)?;
+    if settings == table::FINEST {
+        let (hit, trace) = rust_cylinder(query)?;
+        assert!(as_traced(&walked, hit, trace), "the two walks differ: {}", query.line());
+    }
+    Some(Answer::Walked(walked.hit, [walked.boxes, walked.waiting, u32::from(walked.cut)]))
+}
+
+/// Zeros of both signs are one value.
+fn as_traced(walked: &Walked, (distance, witness): probe::Hit, trace: traced::trace::Trace) -> bool {
+    let counts = traced::trace::Trace { boxes: walked.boxes, waiting: walked.waiting, cut: walked.cut };
+    walked.hit.distance == distance && walked.hit.witness == witness && counts == trace
+}
+
+fn rust_sphere(query: &Query) -> Option<probe::Hit> {
+    let [x, y, z, radius] = query.array();
+    probe::sphere(&probe::solid(&section(query)), Sphere { center: Vec3::new(x, y, z), radius })
+}
+
+fn rust_aabb(query: &Query) -> Option<probe::Hit> {
+    let [z0, z1, r0, r1] = query.array();
+    aabb_polygon_distance(z0, z1, r0, r1, &section(query))
+}
+
+/// Distance and witness of the Rust, and what the traced copy notes of the walk.
+pub fn rust_cylinder(query: &Query) -> Option<(probe::Hit, traced::trace::Trace)> {
     let body @ [ax, ay, az, bx, by, bz, radius] = query.array();
     let solid = traced::probe::solid(&vertices(&query.lists[0]));
     let rust = |a: [f64; 3], b: [f64; 3]| {
@@ -158,11 +162,10 @@ fn rust_refuses(query: &Query, number: u32) -> bool {
     match query.kind {
         Kind::Section => ![6, 8].contains(&number) || built_by_rust(query, RevolvedSolid::try_from_section).is_none(),
         Kind::Polygon => number != 8 || built_by_rust(query, try_from_raised).is_none(),
-        Kind::Sphere => number != 9 || sphere(query).is_none(),
-        Kind::Box => number != 10 || aabb(query).is_none(),
-        Kind::Cylinder => number != 11 || cylinder(query).is_none(),
+        Kind::Sphere => number != 9 || rust_sphere(query).is_none(),
+        Kind::Box => number != 10 || rust_aabb(query).is_none(),
+        Kind::Cylinder | Kind::SetCylinder => number != 11 || rust_cylinder(query).is_none(),
         Kind::Sqrt | Kind::Hypot | Kind::Point | Kind::Convex => true,
         Kind::VerdictSphere | Kind::VerdictBox | Kind::VerdictCylinder | Kind::VerdictConvex => true,
-        Kind::SetCylinder => number != 11 || cylinder(query).is_none(),
     }
 }

@@ -1,5 +1,6 @@
 //! What compare, roots and bench share: queries and answers, the judge, the port, and the generators of inputs.
 
+pub mod answer;
 pub mod fixed;
 pub mod generate;
 pub mod judge;

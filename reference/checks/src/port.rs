@@ -1,8 +1,9 @@
 //! The port's answer, through the crate jorghipa. A refused call is made once more, on places whose content is known, to
 //! see that it leaves them as they were.
 
+use crate::answer::{Answer, floats};
 use crate::judge;
-use crate::query::{Answer, Kind, Query};
+use crate::query::{Kind, Query};
 use jorghipa::{Aabb, Cylinder, CylinderHit, Hit, Point, Refusal, Settings, Sphere, raw};
 
 pub fn answer(query: &Query) -> Answer {
@@ -17,8 +18,8 @@ pub fn answer(query: &Query) -> Answer {
 
 fn flat(query: &Query) -> Answer {
     match query.kind {
-        Kind::Sqrt => Answer::Values(vec![jorghipa::sqrt(query.numbers[0])]),
-        Kind::Hypot => Answer::Values(vec![jorghipa::hypot(query.numbers[0], query.numbers[1])]),
+        Kind::Sqrt => Answer::Root(jorghipa::sqrt(query.numbers[0])),
+        Kind::Hypot => Answer::Root(jorghipa::hypot(query.numbers[0], query.numbers[1])),
         Kind::Point => point(query),
         Kind::Sphere => sphere(query),
         Kind::Box => aabb(query),
@@ -48,10 +49,10 @@ fn lent(query: &Query, i: usize) -> (*const f64, usize) {
 
 /// What the places of a call that is to be refused hold before it.
 const FLOATS: [f64; 3] = [1.25, -2.5, 3.75];
-const COUNTS: [u32; 3] = [77, 78, 79];
+const COUNTS: [u32; 4] = [76, 77, 78, 79];
 
 /// The answer; of a refused call only if `again`, the C function once more, leaves its places as they were.
-fn told(result: Result<Answer, Refusal>, again: impl FnOnce(&mut [f64; 3], &mut [u32; 3]) -> u32) -> Answer {
+fn told(result: Result<Answer, Refusal>, again: impl FnOnce(&mut [f64; 3], &mut [u32; 4]) -> u32) -> Answer {
     result.unwrap_or_else(|Refusal(number)| {
         let (mut floats, mut counts) = (FLOATS, COUNTS);
         let same = again(&mut floats, &mut counts) == number;
@@ -63,13 +64,17 @@ fn refused(number: u32, unchanged: bool) -> Answer {
     if unchanged { Answer::Refused(number) } else { Answer::Spoilt(number) }
 }
 
+fn with_edge(hit: Hit) -> edges::Hit {
+    let Hit { distance, witness_z, witness_radius, edge } = hit;
+    edges::Hit { distance, witness: (witness_z, witness_radius), edge }
+}
+
 fn hit(hit: Hit) -> Answer {
-    Answer::Values(vec![hit.distance, hit.witness_z, hit.witness_radius])
+    Answer::Hit(with_edge(hit))
 }
 
 fn walked(walked: CylinderHit) -> Answer {
-    let hit = [walked.hit.distance, walked.hit.witness_z, walked.hit.witness_radius];
-    Answer::Walked(hit, [walked.boxes, walked.waiting, u32::from(walked.cut)])
+    Answer::Walked(with_edge(walked.hit), [walked.boxes, walked.waiting, u32::from(walked.cut)])
 }
 
 fn place(query: &Query) -> Point {
@@ -95,29 +100,29 @@ fn bar(query: &Query) -> Cylinder {
 fn point(query: &Query) -> Answer {
     let ((list, count), [x, y, z]) = (lent(query, 0), query.array());
     // SAFETY (here and below): the lists are valid for their counts, and the places are distinct.
-    told(jorghipa::point(&query.lists[0], place(query)).map(hit), |[d, wz, wr], _| unsafe {
-        raw::jorghipa_point(list, count, x, y, z, d, wz, wr)
+    told(jorghipa::point(&query.lists[0], place(query)).map(hit), |[d, wz, wr], [edge, ..]| unsafe {
+        raw::jorghipa_point(list, count, x, y, z, d, wz, wr, edge)
     })
 }
 
 fn sphere(query: &Query) -> Answer {
     let ((list, count), [x, y, z, radius]) = (lent(query, 0), query.array());
-    told(jorghipa::sphere(&query.lists[0], ball(query)).map(hit), |[d, wz, wr], _| unsafe {
-        raw::jorghipa_sphere(list, count, x, y, z, radius, d, wz, wr)
+    told(jorghipa::sphere(&query.lists[0], ball(query)).map(hit), |[d, wz, wr], [edge, ..]| unsafe {
+        raw::jorghipa_sphere(list, count, x, y, z, radius, d, wz, wr, edge)
     })
 }
 
 fn aabb(query: &Query) -> Answer {
     let ((list, count), [z0, z1, r0, r1]) = (lent(query, 0), query.array());
-    told(jorghipa::aabb(&query.lists[0], bounds(query)).map(hit), |[d, wz, wr], _| unsafe {
-        raw::jorghipa_box(list, count, z0, z1, r0, r1, d, wz, wr)
+    told(jorghipa::aabb(&query.lists[0], bounds(query)).map(hit), |[d, wz, wr], [edge, ..]| unsafe {
+        raw::jorghipa_box(list, count, z0, z1, r0, r1, d, wz, wr, edge)
     })
 }
 
 fn convex(query: &Query) -> Answer {
     let ((list, count), (section, section_count)) = (lent(query, 0), lent(query, 1));
-    told(jorghipa::convex(&query.lists[0], &query.lists[1]).map(hit), |[d, wz, wr], _| unsafe {
-        raw::jorghipa_convex(list, count, section, section_count, d, wz, wr)
+    told(jorghipa::convex(&query.lists[0], &query.lists[1]).map(hit), |[d, wz, wr], [edge, ..]| unsafe {
+        raw::jorghipa_convex(list, count, section, section_count, d, wz, wr, edge)
     })
 }
 
@@ -125,9 +130,10 @@ fn cylinder(query: &Query, settings: Settings) -> Answer {
     let ((list, count), [ax, ay, az, bx, by, bz, radius]) = (lent(query, 0), query.array());
     let result = jorghipa::cylinder(&query.lists[0], bar(query), settings).map(walked);
     let Settings { tolerance, most, intervals } = settings;
-    told(result, |[d, wz, wr], [boxes, waiting, cut]| unsafe {
+    told(result, |[d, wz, wr], [edge, boxes, waiting, cut]| unsafe {
         raw::jorghipa_cylinder(
-            list, count, ax, ay, az, bx, by, bz, radius, tolerance, most, intervals, d, wz, wr, boxes, waiting, cut,
+            list, count, ax, ay, az, bx, by, bz, radius, tolerance, most, intervals, d, wz, wr, edge, boxes, waiting,
+            cut,
         )
     })
 }
@@ -203,10 +209,10 @@ mod records {
 
     /// Bit by bit, zeros too: both forms run the same code.
     pub fn same_bits(flat: &Answer, records: &Answer) -> bool {
-        let bits = |values: &[f64]| values.iter().map(|x| x.to_bits()).collect::<Vec<_>>();
+        let bits = |hit: &edges::Hit| (floats(hit).map(f64::to_bits), hit.edge);
         match (flat, records) {
             (Answer::Refused(a) | Answer::Spoilt(a), Answer::Refused(b)) => a == b,
-            (Answer::Values(a), Answer::Values(b)) => bits(a) == bits(b),
+            (Answer::Hit(a), Answer::Hit(b)) => bits(a) == bits(b),
             (Answer::Walked(a, m), Answer::Walked(b, n)) => bits(a) == bits(b) && m == n,
             _ => false,
         }

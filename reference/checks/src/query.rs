@@ -1,4 +1,4 @@
-//! A query and an answer, and their lines in the fixed list.
+//! A query, and its line in the fixed list.
 
 use std::fmt::Write;
 use table::Settings;
@@ -142,111 +142,8 @@ fn push(line: &mut String, bits: u64) {
 }
 
 /// One pattern for every NaN.
-fn input_bits(x: f64) -> u64 {
+pub fn input_bits(x: f64) -> u64 {
     if x.is_nan() { 0x7ff8_0000_0000_0000 } else { x.to_bits() }
-}
-
-/// One pattern for every NaN and one for both zeros.
-fn output_bits(x: f64) -> u64 {
-    if x == 0.0 { 0 } else { input_bits(x) }
-}
-
-#[derive(Clone, Debug)]
-pub enum Answer {
-    Refused(u32),
-    /// Refused, but something that was lent had changed.
-    Spoilt(u32),
-    /// The form over records answers something else, its line.
-    Split(String),
-    /// A root, or distance, witness z and witness radius.
-    Values(Vec<f64>),
-    /// How many numbers are kept, and the whole space afterwards.
-    Built(usize, Vec<f64>),
-    /// Distance, witness z and witness radius; boxes, most waiting, cut.
-    Walked([f64; 3], [u32; 3]),
-    /// True is a collision.
-    Verdict(bool),
-}
-
-/// Zeros of both signs are one value, and so is every NaN.
-fn same(a: f64, b: f64) -> bool {
-    output_bits(a) == output_bits(b)
-}
-
-fn all_same(a: &[f64], b: &[f64]) -> bool {
-    a.len() == b.len() && a.iter().zip(b).all(|(&a, &b)| same(a, b))
-}
-
-impl Answer {
-    pub fn refused(&self) -> bool {
-        matches!(self, Answer::Refused(_) | Answer::Spoilt(_))
-    }
-
-    /// Whether a piece waited: a walk, not one box.
-    pub fn walked(&self) -> bool {
-        matches!(self, Answer::Walked(_, [_, waiting, _]) if *waiting > 0)
-    }
-
-    pub fn cut(&self) -> bool {
-        matches!(self, Answer::Walked(_, [_, _, 1]))
-    }
-
-    pub fn same(&self, other: &Answer) -> bool {
-        match (self, other) {
-            (Answer::Refused(a), Answer::Refused(b)) => a == b,
-            (Answer::Values(a), Answer::Values(b)) => all_same(a, b),
-            (Answer::Walked(a, m), Answer::Walked(b, n)) => all_same(a, b) && m == n,
-            (Answer::Verdict(a), Answer::Verdict(b)) => a == b,
-            (Answer::Built(m, a), Answer::Built(n, b)) => {
-                // The rest of the space must keep its very bits.
-                let rest = |space: &[f64]| space[*m..].iter().map(|x| x.to_bits()).collect::<Vec<_>>();
-                m == n && all_same(a, b) && rest(a) == rest(b)
-            }
-            _ => false,
-        }
-    }
-
-    /// What the totals call it.
-    pub fn outcome(&self) -> String {
-        match self {
-            Answer::Refused(number) => format!("refused {number}"),
-            Answer::Spoilt(number) => format!("refused {number}, lent places changed"),
-            Answer::Split(_) => "records answer otherwise".into(),
-            Answer::Values(values) if values.len() == 3 => side(values[0]).into(),
-            Answer::Values(values) if values[0].is_finite() => "finite".into(),
-            Answer::Values(_) => "not finite".into(),
-            Answer::Built(..) => "built".into(),
-            Answer::Walked(hit, [_, _, 0]) => side(hit[0]).into(),
-            Answer::Walked(..) => "cut".into(),
-            Answer::Verdict(collision) => if *collision { "collision" } else { "clear" }.into(),
-        }
-    }
-
-    pub fn line(&self) -> String {
-        let hex = |values: &[f64]| {
-            let words: Vec<String> = values.iter().map(|&x| format!("{:016x}", output_bits(x))).collect();
-            words.join(" ")
-        };
-        match self {
-            Answer::Refused(number) => format!("refused {number}"),
-            Answer::Spoilt(number) => format!("refused {number} (lent places changed)"),
-            Answer::Split(records) => format!("over records: {records}"),
-            Answer::Values(values) => hex(values),
-            Answer::Built(kept, space) => format!("{kept} {}", hex(&space[..*kept])),
-            Answer::Walked(hit, [boxes, waiting, cut]) => format!("{} {boxes} {waiting} {cut}", hex(hit)),
-            Answer::Verdict(collision) => u32::from(*collision).to_string(),
-        }
-    }
-}
-
-fn side(distance: f64) -> &'static str {
-    match distance {
-        f64::INFINITY => "infinite",
-        -1e-8 => "crossing (-1e-8)",
-        d if d < 0.0 => "inside",
-        d if d > 0.0 => "outside",
-        _ => "touching",
-    }
 }
 
 #[cfg(test)]
@@ -278,13 +175,5 @@ mod tests {
         let query = Query::new(Kind::SetCylinder, &[vec![0.0; 6]], &numbers);
         assert!(query.line().ends_with(" 3f847ae147ae147b 0000000000000040 0000000000000004"));
         assert_eq!(Query::parse(&query.line()).unwrap().settings(), settings);
-    }
-
-    #[test]
-    fn zeros_are_one_value_but_not_in_the_rest_of_the_space() {
-        assert!(Answer::Values(vec![0.0]).same(&Answer::Values(vec![-0.0])));
-        assert!(Answer::Built(1, vec![0.0, 1.0]).same(&Answer::Built(1, vec![-0.0, 1.0])));
-        assert!(!Answer::Built(1, vec![1.0, 0.0]).same(&Answer::Built(1, vec![1.0, -0.0])));
-        assert!(!Answer::Refused(3).same(&Answer::Spoilt(3)));
     }
 }

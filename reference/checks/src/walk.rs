@@ -1,10 +1,10 @@
 //! Document 01's cylinders with the numbers of request (vi) in their places, written from the two texts: a second
-//! implementation of the walk, beside the Rust's, which has one setting. Box and point distance are the Rust's own.
+//! implementation of the walk, beside the Rust's, which has one setting. Box and point distance come with their edges, by
+//! document 01's steps. The judge compares the whole walk with the Rust's at the finest settings; at others each box is compared.
 
+use edges::Hit;
 use exact_hypot::hypot;
-use revolve_exact::probe::{self, Hit};
-use revolve_exact::{RevolvedSolid, Vec3, aabb_polygon_distance};
-use table::{Axis, Settings};
+use table::{Axis, FINEST, Settings};
 
 /// Boxes measured, the most pieces that waited at any one time, and whether the walk was cut.
 #[derive(Clone, Copy, Debug, PartialEq)]
@@ -15,29 +15,19 @@ pub struct Walked {
     pub cut: bool,
 }
 
-/// The section's vertices, and its solid.
-pub struct Section<'a> {
-    vertices: &'a [(f64, f64)],
-    solid: RevolvedSolid,
+/// The section's vertices.
+pub type Section = [(f64, f64)];
+
+fn compared(section: &Section, z: (f64, f64), radii: (f64, f64)) -> Hit {
+    edges::aabb(section, [z.0, z.1, radii.0, radii.1]).expect("well formed")
 }
 
-impl<'a> Section<'a> {
-    pub fn new(vertices: &'a [(f64, f64)]) -> Section<'a> {
-        Section { vertices, solid: probe::solid(vertices) }
-    }
+fn by_steps(section: &Section, z: (f64, f64), radii: (f64, f64)) -> Hit {
+    edges::box_by_steps(section, [z.0, z.1, radii.0, radii.1])
+}
 
-    /// Point distance. The hypot of a radius and 0 is the radius.
-    fn point(&self, z: f64, radius: f64) -> Hit {
-        probe::point(&self.solid, Vec3::new(radius, 0.0, z)).expect("finite")
-    }
-
-    fn box_distance(&self, z: (f64, f64), radii: (f64, f64)) -> Hit {
-        aabb_polygon_distance(z.0, z.1, radii.0, radii.1, self.vertices).expect("well formed")
-    }
-
-    fn one_box(&self, z: (f64, f64), radii: (f64, f64)) -> Walked {
-        Walked { hit: self.box_distance(z, radii), boxes: 1, waiting: 0, cut: false }
-    }
+fn one_box(section: &Section, z: (f64, f64), radii: (f64, f64)) -> Walked {
+    Walked { hit: compared(section, z, radii), boxes: 1, waiting: 0, cut: false }
 }
 
 /// x0, x1: the sorted ends; yc, zc: the means.
@@ -105,12 +95,12 @@ impl Band {
 /// The starting distance: the strictly smallest first, over n intervals, sample i at z0 + (z1 - z0)·(i/n).
 pub fn sampled(section: &Section, band: &Band, intervals: u32) -> Hit {
     let (z0, z1) = band.width();
-    let mut best = (f64::INFINITY, (band.zc, 0.0));
+    let mut best = Hit { distance: f64::INFINITY, witness: (band.zc, 0.0), edge: 0 };
     for i in 0..=intervals {
         let z = z0 + (z1 - z0) * (f64::from(i) / f64::from(intervals));
         for radius in band.radii(z) {
-            let hit = section.point(z, radius);
-            if hit.0 < best.0 {
+            let hit = edges::point_by_steps(section, (z, radius));
+            if hit.distance < best.distance {
                 best = hit;
             }
         }
@@ -120,21 +110,22 @@ pub fn sampled(section: &Section, band: &Band, intervals: u32) -> Hit {
 
 fn walk(section: &Section, band: &Band, settings: Settings) -> Walked {
     let Settings { tolerance, most, intervals } = settings;
+    let box_distance = if settings == FINEST { by_steps } else { compared };
     let mut best = sampled(section, band, intervals);
     let (mut least, mut boxes, mut waiting, mut pieces) = (f64::INFINITY, 0, 1, vec![band.width()]);
     while let Some((left, right)) = pieces.pop() {
         if boxes == most {
-            return Walked { hit: (least, best.1), boxes, waiting, cut: true };
+            return Walked { hit: Hit { distance: least, ..best }, boxes, waiting, cut: true };
         }
         boxes += 1;
         let (radii, variation) = band.piece((left, right));
-        let (distance, witness) = section.box_distance((left, right), radii);
-        least = least.min(distance);
-        if distance > best.0 + 1e-12 {
+        let hit = box_distance(section, (left, right), radii);
+        least = least.min(hit.distance);
+        if hit.distance > best.distance + 1e-12 {
             continue;
         }
-        if distance + variation < best.0 {
-            best = (distance + variation, witness);
+        if hit.distance + variation < best.distance {
+            best = Hit { distance: hit.distance + variation, ..hit };
         }
         if variation > tolerance && right - left > tolerance {
             let middle = (left + right) * 0.5;
@@ -151,13 +142,13 @@ pub fn cylinder(section: &Section, body: [f64; 7], settings: Settings) -> Option
     let band = match table::axis(body)? {
         Axis::Axial => {
             let far = hypot((ax + bx) * 0.5, (ay + by) * 0.5);
-            return Some(section.one_box(sorted(az, bz), ((far - radius).max(0.0), far + radius)));
+            return Some(one_box(section, sorted(az, bz), ((far - radius).max(0.0), far + radius)));
         }
         Axis::AlongX => Band::new(body),
         Axis::AlongY => Band::new([ay, ax, az, by, bx, bz, radius]),
     };
     if radius <= 1e-15 {
-        return Some(section.one_box((band.zc, band.zc), band.span(0.0)));
+        return Some(one_box(section, (band.zc, band.zc), band.span(0.0)));
     }
     Some(walk(section, &band, settings))
 }

@@ -1,10 +1,9 @@
 //! Document 01's store and its listing, written from 01's text, with 02's numbers for a length and its 6. Distances are
-//! those of the published Rust with the exact hypot; refusal numbers are those of the table.
+//! those of the published Rust with the exact hypot, the edge comes from 01's steps; refusal numbers are those of the table.
 
 pub mod stores;
 
-use revolve_exact::probe::{self, Hit};
-use revolve_exact::{Sphere, Vec3, aabb_polygon_distance};
+use edges::Hit;
 use std::fmt::Write;
 
 pub const RECORD: usize = 40;
@@ -82,22 +81,20 @@ fn chain(records: &[Record]) -> Result<Vec<usize>, Refusal> {
 }
 
 fn line(text: &mut String, k: usize, record: &Record, section: &[f64]) {
-    let [a, b, c, d] = record.numbers;
     let vertices: Vec<(f64, f64)> = section.chunks(2).map(|v| (v[0], v[1])).collect();
-    let (accepted, hit): (Result<(), u32>, Option<Hit>) = match record.kind {
-        2 => (
-            table::sphere(section, record.numbers, &[]),
-            probe::sphere(&probe::solid(&vertices), Sphere { center: Vec3::new(a, b, c), radius: d }),
-        ),
-        3 => (table::aabb(section, record.numbers, &[]), aabb_polygon_distance(a, b, c, d, &vertices)),
+    let body = record.numbers;
+    let answer = match record.kind {
+        2 => table::sphere(section, body, &[]).map(|()| edges::sphere(&vertices, body)),
+        3 => table::aabb(section, body, &[]).map(|()| edges::aabb(&vertices, body)),
         _ => return,
     };
-    if let Err(number) = accepted {
-        writeln!(text, "{k} refused {number}").unwrap();
-        return;
+    match answer {
+        Err(number) => writeln!(text, "{k} refused {number}").unwrap(),
+        Ok(hit) => {
+            let Hit { distance, witness: (z, radius), edge } = hit.expect("an accepted body has a distance");
+            writeln!(text, "{k} {} {} {} {edge}", bits(distance), bits(z), bits(radius)).unwrap();
+        }
     }
-    let (distance, (z, radius)) = hit.expect("an accepted body has a distance");
-    writeln!(text, "{k} {} {} {}", bits(distance), bits(z), bits(radius)).unwrap();
 }
 
 /// 16 digits; a zero always as +0.
@@ -109,11 +106,11 @@ fn bits(x: f64) -> String {
 #[cfg(test)]
 mod tests {
     use super::*;
-    use crate::stores::{S, example, in_order, store};
+    use crate::stores::{S, example, in_order, longest, store};
 
     #[test]
     fn the_example_of_01() {
-        let lines = "section 4\n5 4014000000000000 4034000000000000 0000000000000000\n";
+        let lines = "section 4\n5 4014000000000000 4034000000000000 0000000000000000 1\n";
         assert_eq!(listing(&example()), lines);
     }
 
@@ -135,6 +132,25 @@ mod tests {
         let vertex = |next, radius| (next, 1, [0.0, radius, 0.0, 0.0]);
         let low = store(&[(3, 0, [0.0; 4]), vertex(0, -1.0), vertex(1, 0.0), vertex(2, -1.0)]);
         assert_eq!(listing(&low), "refused 6 at 3\n");
+    }
+
+    /// The last field of each line.
+    fn edges(store: &[u8]) -> Vec<String> {
+        listing(store).lines().skip(1).map(|line| line.rsplit(' ').next().unwrap().to_string()).collect()
+    }
+
+    #[test]
+    fn the_last_field_is_the_edge() {
+        let bodies = [
+            (2, [0.0, 0.0, 10.0, 1.0]),
+            (2, [5.0, 0.0, -2.0, 1.0]),
+            (3, [-5.0, 25.0, 5.0, 15.0]),
+            (3, [5.0, 4.0, 0.0, 5.0]),
+            (3, [20.0, 25.0, 10.0, 15.0]),
+        ];
+        assert_eq!(edges(&in_order(&S, &bodies)), ["0", "3", "1", "10", "0"]);
+        assert!(listing(&in_order(&S, &bodies)).contains("8 refused 10\n"));
+        assert_eq!(edges(&longest()), vec!["10"; 500]);
     }
 
     #[test]

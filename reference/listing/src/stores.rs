@@ -33,14 +33,24 @@ pub fn example() -> Vec<u8> {
     in_order(&S, &[(3, [25.0, 30.0, 0.0, 5.0])])
 }
 
+/// 11 vertices and 500 spheres that are nearest to the last edge, which has two digits: the longest listing.
+pub fn longest() -> Vec<u8> {
+    let mut vertices: Vec<[f64; 4]> = (0..10).map(|k| [f64::from(k), 0.0, 0.0, 0.0]).collect();
+    vertices.push([10.0, 5.0, 0.0, 0.0]);
+    let spheres: Vec<_> = (0..500).map(|k| (2, [5.0 + f64::from(k) / 32.0, 0.0, 0.0, 1.0])).collect();
+    in_order(&vertices, &spheres)
+}
+
 /// Generated stores.
 pub struct Stores {
     random: Random,
+    /// Whole numbers from -6 to 6 only: vertices come again, and many edges are equally near.
+    whole: bool,
 }
 
 impl Stores {
     pub fn new(seed: u64) -> Stores {
-        Stores { random: Random::new(seed, 0) }
+        Stores { random: Random::new(seed, 0), whole: false }
     }
 
     fn coordinate(&mut self) -> f64 {
@@ -59,6 +69,7 @@ impl Stores {
             1e300,
         ];
         match self.random.below(40) {
+            _ if self.whole => self.random.whole(-6, 6) as f64,
             0 => self.random.pick(&ODD),
             1..=9 => self.random.below(41) as f64 - 20.0,
             10 => f64::from_bits(self.random.bits()),
@@ -81,6 +92,7 @@ impl Stores {
 
     /// Vertices and bodies interleaved, in any order of records, with unreached ones between.
     pub fn store(&mut self) -> Vec<u8> {
+        self.whole = self.random.chance(1, 3);
         let count = match self.random.below(60) {
             0 => 512,
             1 => 300 + self.random.below(213),

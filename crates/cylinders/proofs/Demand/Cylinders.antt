@@ -8,6 +8,7 @@ use lib.Ieee.{Float}
 use Rattle.arith.specs.F64.{_≼_, e-15}
 use Rattle.arith.proofs.Laws.Sizes.{finite-raise}
 use Rattle.profile.proofs.Steps.{pick}
+use Rattle.profile.specs.Vertices.{count}
 use Rattle.boxes.specs.Boxes.{boxDistance}
 use Rattle.section.specs.Demand.{Bounded}
 use Rattle.section.proofs.Demand.Bounds.{finite-atMost}
@@ -44,30 +45,30 @@ axialBox-atMost C =
     }
 
 module _ {s : List Float} (S : VerticesAtMost 23 s) where
-  band-atMost : {b : RadialBand} {t : Settings} → SettingsTaken t → InLimit b → HitAtMost 28 (bandDistance s b t .hit)
+  band-atMost : {b : RadialBand} {t : Settings} → SettingsTaken t → InLimit b → HitAtMost 28 (count s) (bandDistance s b t .hit)
   unfolding bandDistance
   band-atMost {b} {t} taken B =
-      pick (λ (w : CountedHit). HitAtMost 28 (w .hit)) (b .radius ≼ e-15)
+      pick (λ (w : CountedHit). HitAtMost 28 (count s) (w .hit)) (b .radius ≼ e-15)
       (λ h. hit-raise (box-atMost S (thinBox-atMost B)) tt)
       (λ h. walked-atMost (walkAll-atMost S B (t .tolerance) (t .most) (taken .some-box)
       (record { some = taken .some-interval; few = le-trans (taken .samples) (lit≤ tt) })))
 
   cylinder-atMost : {c : Cylinder} {t : Settings} → SettingsTaken t → CylinderInLimit c
-      → HitAtMost 28 (cylinderDistance s c t .hit)
+      → HitAtMost 28 (count s) (cylinderDistance s c t .hit)
   unfolding cylinderDistance
   cylinder-atMost {c} {t} taken C = by (axis c) refl
     where
-      along : HitAtMost 28 (boxDistance s (axialBox c))
+      along : HitAtMost 28 (count s) (boxDistance s (axialBox c))
       along = hit-raise (box-atMost S (axialBox-atMost C)) tt
 
-      by : (a : Axis) → axis c ≡ a → HitAtMost 28 (cylinderDistance s c t .hit)
+      by : (a : Axis) → axis c ≡ a → HitAtMost 28 (count s) (cylinderDistance s c t .hit)
       by Axial e = rw e along
       by AlongX e = rw e (band-atMost taken (bandOf-in-limit C))
       by AlongY e = rw e (band-atMost taken (bandOf-in-limit (measuredAs-in-limit AlongY C)))
       by Neither e = rw e along
 
 pub cylinder-bounded : (s : List Float) (c : Cylinder) (t : Settings) → refusal (cylinderTests s c [] (settingsTests t)) ≡ 0
-    → SettingsTaken t → Bounded (cylinderDistance s c t .hit)
+    → SettingsTaken t → Bounded s (cylinderDistance s c t .hit)
 cylinder-bounded s c t e taken =
     let A = accepted s c [] (settingsTests t) tt e in
-    hit-bounded (cylinder-atMost (A .section) taken (A .cylinder)) tt
+    hit-bounded (A .section) (cylinder-atMost (A .section) taken (A .cylinder)) tt

@@ -26,7 +26,11 @@ taken-atMost x X = limit-atMost x (not-not (isFinite x) (X .finite)) (X .small)
 pub taken-vertices : {s : List Float} → ShapeTaken 3 256 s → All NumberTaken s → VerticesAtMost 23 s
 taken-vertices {s} h A =
     let l = nltb→le (count s) 3 (h .long) in
-    record { some = omega arith; each = λ k w. atMost-raise (taken-atMost _ (all-at A nan k w)) tt }
+    record {
+      some = omega arith;
+      few = nltb→le 256 (count s) (h .short);
+      each = λ k w. atMost-raise (taken-atMost _ (all-at A nan k w)) tt;
+    }
 
 -- of one section beside a body with these numbers, whatever else is given
 pub record SectionTaken (s numbers : List Float) (own : List Test) : Type 0 where

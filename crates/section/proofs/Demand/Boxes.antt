@@ -13,13 +13,15 @@ use Rattle.boxes.specs.Boxes.{boxDistance, boxGap, boxHolds, boxPenetration, bo
 use Rattle.points.specs.Overlap.{resultOf}
 use Rattle.boxes.specs.Boxes.{strictlyInsideAabb}
 use Rattle.points.specs.Points.{pointDistance}
-use Rattle.profile.specs.Vertices.{count, endAt, hit, vertexAt}
+use Rattle.profile.specs.Vertices.{count, edgeAt, hit, on, vertexAt}
 use Rattle.profile.specs.declared.shapes.Aabb.{Aabb}
 use Rattle.profile.specs.declared.shapes.Vertex.{Vertex}
+use Rattle.profile.specs.declared.shapes.Witness.{Witness}
 use Rattle.section.proofs.Demand.Bounds.{add-atMost, finite-atMost}
 use Rattle.section.proofs.Demand.Clip.{edgeBox-atMost}
-use Rattle.section.proofs.Demand.Hits.{BoxAtMost, corners-atMost, endAt-atMost, HitAtMost, nearest-beside, nearest-hit}
-use Rattle.section.proofs.Demand.Hits.{none-yet, vertex-raise, vertexAt-atMost, VertexAtMost, VerticesAtMost}
+use Rattle.section.proofs.Demand.Hits.{BoxAtMost, corners-atMost, edgeAt-atMost, HitAtMost, nearest-beside, nearest-hit}
+use Rattle.section.proofs.Demand.Hits.{none-yet, vertex-witness, vertexAt-atMost, VertexAtMost, VerticesAtMost}
+use Rattle.section.proofs.Demand.Hits.{WitnessAtMost}
 use Rattle.section.proofs.Demand.Points.{point-best}
 
 middle-atMost : {a b : Vertex} → VertexAtMost 23 a → VertexAtMost 23 b → VertexAtMost 23 (middle a b)
@@ -44,27 +46,27 @@ result-finite {penetration} {gap} overlaps P G =
     (λ k. pick (Finite 27) (gap ≼ e-12) (λ l. zero-finite 27) (λ l. G)))
 
 module _ {s : List Float} (S : VerticesAtMost 23 s) {x : Aabb} (X : BoxAtMost 23 x) where
-  boxGap-atMost : HitAtMost 27 (boxGap s x)
+  boxGap-atMost : HitAtMost 27 (count s) (boxGap s x)
   unfolding boxGap
   boxGap-atMost =
-      nearest-hit (λ k. edgeBox x (vertexAt s k) (endAt s k)) (hit ∞ (vertexAt s 0)) (count s) (S .some)
-      (λ k l. edgeBox-atMost X (vertexAt-atMost S k l) (endAt-atMost S k l))
-      (none-yet refl (vertex-raise (vertexAt-atMost S 0 (S .some)) tt))
+      nearest-hit (λ k. edgeBox x (edgeAt s k)) (hit ∞ (on 0 (vertexAt s 0))) (count s) (S .some)
+      (λ k l. edgeBox-atMost X (edgeAt-atMost S k l))
+      (none-yet refl (vertex-witness S tt 0 (S .some)))
 
-  boxPenetration-atMost : {w : Vertex} → VertexAtMost 25 w → HitAtMost 27 (boxPenetration s x w)
+  boxPenetration-atMost : {w : Witness} → WitnessAtMost (count s) w → HitAtMost 27 (count s) (boxPenetration s x w)
   unfolding boxPenetration
   boxPenetration-atMost {w} W =
       nearest-beside (λ k. pointDistance s (probe x k)) (hit 𝟘 w) 5 (λ k l. point-best S (probe-atMost X k l))
       (record { distance = zero-finite 27; witness = W })
 
-  boxWitness-atMost : {w : Vertex} → VertexAtMost 25 w → VertexAtMost 25 (boxWitness s x w)
+  boxWitness-atMost : {w : Witness} → WitnessAtMost (count s) w → WitnessAtMost (count s) (boxWitness s x w)
   unfolding boxWitness
   boxWitness-atMost {w} W =
-      upto-keeps (VertexAtMost 25) (λ k at. cond (strictlyInsideAabb x (vertexAt s k)) (vertexAt s k) at) w (count s) W
-      (λ k l v A. pick (VertexAtMost 25) (strictlyInsideAabb x (vertexAt s k))
-      (λ g. vertex-raise (vertexAt-atMost S k l) tt) (λ g. A))
+      upto-keeps (WitnessAtMost (count s)) (λ k at. cond (strictlyInsideAabb x (vertexAt s k)) (on k (vertexAt s k)) at) w
+      (count s) W
+      (λ k l v A. pick (WitnessAtMost (count s)) (strictlyInsideAabb x (vertexAt s k)) (λ g. vertex-witness S tt k l) (λ g. A))
 
-  pub box-atMost : HitAtMost 27 (boxDistance s x)
+  pub box-atMost : HitAtMost 27 (count s) (boxDistance s x)
   unfolding boxDistance
   box-atMost =
       let gap = boxGap-atMost in

@@ -1,5 +1,6 @@
 -- For coordinates up to 2 ^ 23, the clip of a segment runs from 0 to 1, and an edge's distance from a box is bounded as
 -- that of two segments.
+use Prim.Native.Nat.{ℕ}
 use mathlib.Core.Bool.{not, cond}
 use mathlib.Core.Path.{refl}
 use native.Mathlib.Nat.{le-of-lt}
@@ -14,13 +15,14 @@ use Rattle.profile.proofs.Steps.{pick}
 use Rattle.segments.specs.Clip.{clip, clipSide, outside, part}
 use Rattle.boxes.specs.Boxes.{corners, edgeBox}
 use Rattle.segments.specs.Segments.{segments}
-use Rattle.profile.specs.Vertices.{endAt, hit, vertexAt}
+use Rattle.profile.specs.Vertices.{endAt, hit, on, vertexAt}
 use Rattle.profile.specs.declared.shapes.Aabb.{Aabb}
 use Rattle.segments.specs.declared.shapes.Clip.{Clip}
+use Rattle.profile.specs.declared.shapes.Edge.{Edge}
 use Rattle.profile.specs.declared.shapes.Vertex.{Vertex}
 use Rattle.section.proofs.Demand.Bounds.{sub-atMost}
-use Rattle.section.proofs.Demand.Hits.{BoxAtMost, corners-atMost, endAt-atMost, HitAtMost, nearest-hit, none-yet}
-use Rattle.section.proofs.Demand.Hits.{vertex-raise, vertexAt-atMost, VertexAtMost}
+use Rattle.section.proofs.Demand.Hits.{BoxAtMost, corners-atMost, EdgeAtMost, endAt-atMost, HitAtMost, nearest-hit}
+use Rattle.section.proofs.Demand.Hits.{none-yet, on-atMost, vertex-raise, vertexAt-atMost, VertexAtMost}
 use Rattle.section.proofs.Demand.Segments.{along-atMost, minus-difference, segments-atMost}
 
 pub record ClipInUnit (c : Clip) : Type 0 where
@@ -78,12 +80,13 @@ clip-inUnit X A B =
     ordered {c} C = pick ClipInUnit (c .t1 ≺ c .t0) (λ h. outside-inUnit) (λ h. C)
 
 -- ---- an edge and a box
-pub edgeBox-atMost : {x : Aabb} {a b : Vertex} → BoxAtMost 23 x → VertexAtMost 23 a → VertexAtMost 23 b
-    → HitAtMost 27 (edgeBox x a b)
+pub edgeBox-atMost : {m : ℕ} {x : Aabb} {e : Edge} → BoxAtMost 23 x → EdgeAtMost 23 m e → HitAtMost 27 m (edgeBox x e)
 unfolding edgeBox
-edgeBox-atMost {x} {a} {b} X A B =
+edgeBox-atMost {m} {x} {e} X E =
     let s = corners-atMost X in
-    pick (HitAtMost 27) (clip x a b .any)
-    (λ h. record { distance = zero-finite 27; witness = along-atMost A B (clip-inUnit X A B .t0) })
-    (λ h. nearest-hit (λ k. segments a b (vertexAt (corners x) k) (endAt (corners x) k)) (hit ∞ a) 4 (leb→le 1 4 tt)
-    (λ k l. segments-atMost A B (vertexAt-atMost s k l) (endAt-atMost s k l)) (none-yet refl (vertex-raise A tt)))
+    let at = along-atMost (E .a) (E .b) (clip-inUnit X (E .a) (E .b) .t0) in
+    pick (HitAtMost 27 m) (clip x (e .a) (e .b) .any)
+    (λ h. record { distance = zero-finite 27; witness = on-atMost (E .number) at })
+    (λ h. nearest-hit (λ k. segments e (vertexAt (corners x) k) (endAt (corners x) k)) (hit ∞ (on (e .number) (e .a))) 4
+    (leb→le 1 4 tt) (λ k l. segments-atMost E (vertexAt-atMost s k l) (endAt-atMost s k l))
+    (none-yet refl (on-atMost (E .number) (vertex-raise (E .a) tt))))

@@ -12,13 +12,14 @@ use Rattle.convex.specs.Convex.{anyCross, convexDistance, convexGap, convexNear
 use Rattle.convex.specs.Convex.{signedDistanceConvex, convexRow, pointInConvex}
 use Rattle.points.specs.Points.{pointDistance}
 use Rattle.segments.specs.Segments.{closest, segments}
-use Rattle.profile.specs.Vertices.{count, endAt, hit, vertexAt}
+use Rattle.profile.specs.Vertices.{count, edgeAt, endAt, hit, on, vertexAt}
 use Rattle.profile.specs.declared.shapes.CollisionHit.{CollisionHit}
 use Rattle.profile.specs.declared.shapes.Vertex.{Vertex}
+use Rattle.profile.specs.declared.shapes.Witness.{Witness}
 use Rattle.section.proofs.Demand.Boxes.{result-finite}
-use Rattle.section.proofs.Demand.Hits.{BestAtMost, endAt-atMost, found, HitAtMost, LeastAtMost, min-new, nearest-beside}
-use Rattle.section.proofs.Demand.Hits.{nearest-hit, no-distance, none-yet, some-distance, vertex-raise}
-use Rattle.section.proofs.Demand.Hits.{vertexAt-atMost, VertexAtMost, VerticesAtMost}
+use Rattle.section.proofs.Demand.Hits.{BestAtMost, edgeAt-atMost, endAt-atMost, found, HitAtMost, LeastAtMost, min-new}
+use Rattle.section.proofs.Demand.Hits.{nearest-beside, nearest-hit, no-distance, none-yet, some-distance}
+use Rattle.section.proofs.Demand.Hits.{vertex-witness, vertexAt-atMost, VertexAtMost, VerticesAtMost, WitnessAtMost}
 use Rattle.section.proofs.Demand.Points.{point-best}
 use Rattle.section.proofs.Demand.Segments.{closest-atMost, segments-atMost}
 
@@ -26,8 +27,8 @@ convexNear-finite : {c : List Float} → VerticesAtMost 23 c → {p : Vertex} �
 unfolding convexNear
 convexNear-finite {c} C {p} P =
     upto-makes (LeastAtMost 27) (Finite 27) (λ b B. some-distance B)
-    (λ k best. min best (closest p (vertexAt c k) (endAt c k) .distance)) ∞ (count c) (C .some) (no-distance refl)
-    (λ k l b B. min-new B (closest-atMost P (vertexAt-atMost C k l) (endAt-atMost C k l) .distance))
+    (λ k best. min best (closest p (edgeAt c k) .distance)) ∞ (count c) (C .some) (no-distance refl)
+    (λ k l b B. min-new B (closest-atMost P (edgeAt-atMost C k l) .distance))
 
 convexPoint-finite : {c : List Float} → VerticesAtMost 23 c → {p : Vertex} → VertexAtMost 23 p → Finite 27 (signedDistanceConvex c p)
 unfolding signedDistanceConvex
@@ -38,32 +39,34 @@ convexPoint-finite {c} C {p} P =
     (λ h. pick (Finite 27) (pointInConvex c p) (λ k. neg-finite D) (λ k. D))
 
 module _ {c s : List Float} (C : VerticesAtMost 23 c) (S : VerticesAtMost 23 s) where
-  convexRow-atMost : (i : ℕ) → i < count c → {b : CollisionHit} → BestAtMost 27 b → HitAtMost 27 (convexRow c s i b)
+  convexRow-atMost : (i : ℕ) → i < count c → {b : CollisionHit} → BestAtMost 27 (count s) b
+      → HitAtMost 27 (count s) (convexRow c s i b)
   unfolding convexRow
   convexRow-atMost i l {b} B =
-      nearest-hit (λ j. segments (vertexAt s j) (endAt s j) (vertexAt c i) (endAt c i)) b (count s) (S .some)
-      (λ j m. segments-atMost (vertexAt-atMost S j m) (endAt-atMost S j m) (vertexAt-atMost C i l) (endAt-atMost C i l)) B
+      nearest-hit (λ j. segments (edgeAt s j) (vertexAt c i) (endAt c i)) b (count s) (S .some)
+      (λ j m. segments-atMost (edgeAt-atMost S j m) (vertexAt-atMost C i l) (endAt-atMost C i l)) B
 
-  convexGap-atMost : HitAtMost 27 (convexGap c s)
+  convexGap-atMost : HitAtMost 27 (count s) (convexGap c s)
   unfolding convexGap
   convexGap-atMost =
-      upto-makes (BestAtMost 27) (HitAtMost 27) (λ b B. found B) (convexRow c s) (hit ∞ (vertexAt s 0)) (count c) (C .some)
-      (none-yet refl (vertex-raise (vertexAt-atMost S 0 (S .some)) tt)) (λ i l b B. convexRow-atMost i l B)
+      upto-makes (BestAtMost 27 (count s)) (HitAtMost 27 (count s)) (λ b B. found B) (convexRow c s)
+      (hit ∞ (on 0 (vertexAt s 0))) (count c) (C .some)
+      (none-yet refl (vertex-witness S tt 0 (S .some))) (λ i l b B. convexRow-atMost i l B)
 
-  convexPenetration-atMost : {w : Vertex} → VertexAtMost 25 w → HitAtMost 27 (convexPenetration c s w)
+  convexPenetration-atMost : {w : Witness} → WitnessAtMost (count s) w → HitAtMost 27 (count s) (convexPenetration c s w)
   unfolding convexPenetration
   convexPenetration-atMost {w} W =
-      nearest-beside (λ j. hit (signedDistanceConvex c (vertexAt s j)) (vertexAt s j)) _ (count s)
+      nearest-beside (λ j. hit (signedDistanceConvex c (vertexAt s j)) (on j (vertexAt s j))) _ (count s)
       (λ j l. found (vertex-hit j l))
       (nearest-beside (λ i. pointDistance s (vertexAt c i)) (hit 𝟘 w) (count c)
       (λ i l. point-best S (vertexAt-atMost C i l)) (record { distance = zero-finite 27; witness = W }))
     where
-      vertex-hit : (j : ℕ) → j < count s → HitAtMost 27 (hit (signedDistanceConvex c (vertexAt s j)) (vertexAt s j))
+      vertex-hit : (j : ℕ) → j < count s
+          → HitAtMost 27 (count s) (hit (signedDistanceConvex c (vertexAt s j)) (on j (vertexAt s j)))
       vertex-hit j l =
-          let v = vertexAt-atMost S j l in
-          record { distance = convexPoint-finite C v; witness = vertex-raise v tt }
+          record { distance = convexPoint-finite C (vertexAt-atMost S j l); witness = vertex-witness S tt j l }
 
-  pub convex-atMost : HitAtMost 27 (convexDistance c s)
+  pub convex-atMost : HitAtMost 27 (count s) (convexDistance c s)
   unfolding convexDistance
   convex-atMost =
       let gap = convexGap-atMost in

@@ -16,28 +16,29 @@ use Rattle.section.specs.Demand.{AtMost, offAxis}
 use Rattle.points.specs.Points.{inSection, meridian, pointDistance, sphereDistance, edgeIsSurface, surfaceNear}
 use Rattle.points.specs.Points.{surfaceStep}
 use Rattle.segments.specs.Segments.{closest}
-use Rattle.profile.specs.Vertices.{count, endAt, hit, nearer, next, vertexAt}
+use Rattle.profile.specs.Vertices.{count, edgeAt, endAt, hit, nearer, next, on, vertexAt}
 use Rattle.profile.specs.declared.shapes.CollisionHit.{CollisionHit}
 use Rattle.profile.specs.declared.shapes.Sphere.{Sphere}
 use Rattle.profile.specs.declared.shapes.Vertex.{Vertex}
 use Rattle.section.proofs.Demand.Bounds.{finite-atMost, hypot-atMost, sub-atMost}
-use Rattle.section.proofs.Demand.Hits.{BestAtMost, endAt-atMost, found, HitAtMost, nearer-new, next-below, none-yet}
-use Rattle.section.proofs.Demand.Hits.{vertex-raise, vertexAt-atMost, VertexAtMost, VerticesAtMost}
+use Rattle.section.proofs.Demand.Hits.{BestAtMost, edgeAt-atMost, found, HitAtMost, nearer-new, next-below, none-yet}
+use Rattle.section.proofs.Demand.Hits.{vertex-witness, VertexAtMost, VerticesAtMost, WitnessAtMost}
 use Rattle.section.proofs.Demand.Segments.{closest-atMost}
 use Rattle.section.proofs.Demand.AtMost.{atMost-raise}
 
-first-vertex : {s : List Float} → VerticesAtMost 23 s → VertexAtMost 25 (vertexAt s 0)
-first-vertex S = vertex-raise (vertexAt-atMost S 0 (S .some)) tt
+first-vertex : {s : List Float} → VerticesAtMost 23 s → WitnessAtMost (count s) (on 0 (vertexAt s 0))
+first-vertex S = vertex-witness S tt 0 (S .some)
 
--- a bounded hit where some vertex is off the axis, and otherwise +infinity with the first vertex
+-- a bounded hit where some vertex is off the axis, and otherwise +infinity with the first vertex, and edge 0
 pub record OffAxisAtMost (n : ℕ) (s : List Float) (h : CollisionHit) : Type 0 where
-  pub off : T (offAxis s) → HitAtMost n h
-  pub on : T (not (offAxis s)) → h ≡ hit ∞ (vertexAt s 0)
+  pub off : T (offAxis s) → HitAtMost n (count s) h
+  pub on : T (not (offAxis s)) → h ≡ hit ∞ (on 0 (vertexAt s 0))
 
-pub offAxis-best : {n : ℕ} {s : List Float} {h : CollisionHit} → VerticesAtMost 23 s → OffAxisAtMost n s h → BestAtMost n h
+pub offAxis-best : {n : ℕ} {s : List Float} {h : CollisionHit} → VerticesAtMost 23 s → OffAxisAtMost n s h
+    → BestAtMost n (count s) h
 offAxis-best {n} {s} {h} S H = go (offAxis s) (H .off) (H .on)
   where
-    go : (b : Bool) → (T b → HitAtMost n h) → (T (not b) → h ≡ hit ∞ (vertexAt s 0)) → BestAtMost n h
+    go : (b : Bool) → (T b → HitAtMost n (count s) h) → (T (not b) → h ≡ hit ∞ (on 0 (vertexAt s 0))) → BestAtMost n (count s) h
     go true f g = found (f tt)
     go false f g = rw (g tt) (none-yet refl (first-vertex S))
 
@@ -65,33 +66,33 @@ counts-off s k l h =
 
 -- ---- the closest point on the edges that count
 module _ {s : List Float} (S : VerticesAtMost 23 s) {p : Vertex} (P : VertexAtMost 23 p) where
-  closer : (k : ℕ) → k < count s → {b : CollisionHit} → BestAtMost 27 b
-      → HitAtMost 27 (nearer b (closest p (vertexAt s k) (endAt s k)))
-  closer k l B = nearer-new B (closest-atMost P (vertexAt-atMost S k l) (endAt-atMost S k l))
+  closer : (k : ℕ) → k < count s → {b : CollisionHit} → BestAtMost 27 (count s) b
+      → HitAtMost 27 (count s) (nearer b (closest p (edgeAt s k)))
+  closer k l B = nearer-new B (closest-atMost P (edgeAt-atMost S k l))
 
-  surfaceNear-off : T (offAxis s) → HitAtMost 27 (surfaceNear s p)
+  surfaceNear-off : T (offAxis s) → HitAtMost 27 (count s) (surfaceNear s p)
   unfolding surfaceNear surfaceStep offAxis
   surfaceNear-off h =
       let z = any-found (offAt s) (count s) h in
-      upto-reaches (BestAtMost 27) (HitAtMost 27) (surfaceStep s p) (hit ∞ (vertexAt s 0)) (count s)
+      upto-reaches (BestAtMost 27 (count s)) (HitAtMost 27 (count s)) (surfaceStep s p) (hit ∞ (on 0 (vertexAt s 0))) (count s)
       (none-yet refl (first-vertex S))
-      (λ k l b B. pick (BestAtMost 27) (counts k) (λ g. found (closer k l B)) (λ g. B))
-      (λ k l b B. pick (HitAtMost 27) (counts k) (λ g. closer k l (found B)) (λ g. B))
+      (λ k l b B. pick (BestAtMost 27 (count s)) (counts k) (λ g. found (closer k l B)) (λ g. B))
+      (λ k l b B. pick (HitAtMost 27 (count s)) (counts k) (λ g. closer k l (found B)) (λ g. B))
       (z .0) (z .1)
-      (λ b B. pick (HitAtMost 27) (counts (z .0)) (λ g. closer (z .0) (z .1) B)
+      (λ b B. pick (HitAtMost 27 (count s)) (counts (z .0)) (λ g. closer (z .0) (z .1) B)
       (λ g. absurd (off-counts s (z .0) (z .2) g)))
     where
       counts : ℕ → Bool
       counts k = edgeIsSurface (vertexAt s k) (endAt s k)
 
-  surfaceNear-on : T (not (offAxis s)) → surfaceNear s p ≡ hit ∞ (vertexAt s 0)
+  surfaceNear-on : T (not (offAxis s)) → surfaceNear s p ≡ hit ∞ (on 0 (vertexAt s 0))
   unfolding surfaceNear surfaceStep
   surfaceNear-on h =
-      upto-keeps None (surfaceStep s p) (hit ∞ (vertexAt s 0)) (count s) refl
+      upto-keeps None (surfaceStep s p) (hit ∞ (on 0 (vertexAt s 0))) (count s) refl
       (λ k l b B. pick None (edgeIsSurface (vertexAt s k) (endAt s k)) (λ g. absurd (counts-off s k l h g)) (λ g. B))
     where
       None : CollisionHit → Type 0
-      None b = b ≡ hit ∞ (vertexAt s 0)
+      None b = b ≡ hit ∞ (on 0 (vertexAt s 0))
 
   -- ---- point distance
   pub point-atMost : OffAxisAtMost 27 s (pointDistance s p)
@@ -110,7 +111,7 @@ module _ {s : List Float} (S : VerticesAtMost 23 s) {p : Vertex} (P : VertexAtMo
           (λ k. pick (Finite 27) (inSection s p) (λ l. neg-finite D) (λ l. D)))
           (λ h. absurd (T-not (isFinite d) h (finite-ends D)))
 
-  pub point-best : BestAtMost 27 (pointDistance s p)
+  pub point-best : BestAtMost 27 (count s) (pointDistance s p)
   point-best = offAxis-best S point-atMost
 
 -- ---- points of space and spheres: coordinates and radius up to 2 ^ 20

@@ -2,13 +2,14 @@
 use Prim.Native.Nat.{ℕ}
 use mathlib.Core.List.{List, [], _∷_, _++_}
 use mathlib.Core.Path.{_≡_}
+use native.Mathlib.Nat.{lt-of-lt-of-le}
 use lib.Dec.{T, leb}
 use lib.Ieee.{Float}
 use Rattle.arith.specs.declared.vector.Vec3.{Vec3}
 use Rattle.section.specs.Answers.{boxAnswer, convexAnswer, pointAnswer, sphereAnswer}
 use Rattle.boxes.specs.Boxes.{boxDistance}
 use Rattle.convex.specs.Convex.{convexDistance}
-use Rattle.section.specs.Demand.{Bounded, BoundedOffAxis, AtMost}
+use Rattle.section.specs.Demand.{Bounded, BoundedOffAxis, AtMost, FewEdges}
 use Rattle.points.specs.Points.{meridian, pointDistance, sphereDistance}
 use Rattle.profile.specs.Refusals.{axisTests, boxNumbers, boxTests, boundsTests, convexTests, pointNumbers, pointTests, radiusTests}
 use Rattle.profile.specs.Refusals.{Test, refusal, sphereNumbers, sphereTests}
@@ -19,6 +20,7 @@ use Rattle.profile.proofs.Replies.{of-reply}
 use Rattle.profile.specs.declared.shapes.Aabb.{Aabb}
 use Rattle.profile.specs.declared.shapes.CollisionHit.{CollisionHit}
 use Rattle.profile.specs.declared.shapes.Sphere.{Sphere}
+use Rattle.profile.specs.Vertices.{count}
 use Rattle.section.proofs.Demand.Accepted.{section-taken, taken-vertices}
 use Rattle.section.proofs.Demand.Bounds.{finite-atMost}
 use Rattle.section.proofs.Demand.Boxes.{box-atMost}
@@ -29,9 +31,16 @@ use Rattle.section.proofs.Demand.Points.{meridian-atMost, offAxis-best,
 use Rattle.section.proofs.Demand.Points.{Vec3AtMost}
 use Rattle.section.proofs.Demand.AtMost.{atMost-raise}
 
-pub hit-bounded : {n : ℕ} {h : CollisionHit} → HitAtMost n h → T (leb n 28) → Bounded h
-hit-bounded H t =
-    record { distance = atMost-raise (finite-atMost (H .distance)) t; z = H .witness .z; r = H .witness .r }
+pub hit-bounded : {n : ℕ} {s : List Float} {h : CollisionHit} → VerticesAtMost 23 s → HitAtMost n (count s) h → T (leb n 28)
+    → Bounded s h
+hit-bounded S H t =
+    record {
+      distance = atMost-raise (finite-atMost (H .distance)) t;
+      z = H .witness .z;
+      r = H .witness .r;
+      edge = H .witness .edge;
+      few = S .few;
+    }
 
 pub hit-boundedOffAxis : {n : ℕ} {s : List Float} {h : CollisionHit} → VerticesAtMost 23 s → OffAxisAtMost n s h
     → T (leb n 28) → BoundedOffAxis s h
@@ -43,7 +52,16 @@ hit-boundedOffAxis S H t =
       infinite = H .on;
       z = best-witness B .z;
       r = best-witness B .r;
+      edge = best-witness B .edge;
+      few = S .few;
     }
+
+-- every hit's edge is one of at most 256
+pub bounded-few : {s : List Float} (h : CollisionHit) → Bounded s h → FewEdges h
+bounded-few h B = lt-of-lt-of-le (B .edge) (B .few)
+
+pub boundedOffAxis-few : {s : List Float} (h : CollisionHit) → BoundedOffAxis s h → FewEdges h
+boundedOffAxis-few h B = lt-of-lt-of-le (B .edge) (B .few)
 
 vec3-atMost : {p : Vec3} {rest : List Float} → All (AtMost 20) (p .x ∷ p .y ∷ p .z ∷ rest) → Vec3AtMost 20 p
 vec3-atMost (cons x (cons y (cons z h))) = record { x = x; y = y; z = z }
@@ -72,26 +90,27 @@ module _ (s extra : List Float) (settings : List Test) where
       hit-boundedOffAxis (A .section) (sphere-atMost (A .section) (vec3-atMost (A .body)) (radius-atMost (A .body))) tt
 
   pub box-bounded : (x : Aabb) → T (numbered (settings ++ (axisTests s ++ boundsTests x))) → refusal (boxTests s x extra settings) ≡ 0
-      → Bounded (boxDistance s x)
+      → Bounded s (boxDistance s x)
   box-bounded x h e =
       let A = section-taken s (boxNumbers x) extra settings (boundsTests x) h e in
-      hit-bounded (box-atMost (A .section) (box-numbers (A .body))) tt
+      hit-bounded (A .section) (box-atMost (A .section) (box-numbers (A .body))) tt
 
 pub sphere-demand : (s : List Float) (b : Sphere) → OfValue (BoundedOffAxis s) (sphereAnswer s b)
 unfolding sphereAnswer
 sphere-demand s b =
     of-reply (BoundedOffAxis s) (refusal (sphereTests s b [] [])) (sphereDistance s b) (sphere-bounded s [] [] b tt)
 
-pub box-demand : (s : List Float) (x : Aabb) → OfValue Bounded (boxAnswer s x)
+pub box-demand : (s : List Float) (x : Aabb) → OfValue (Bounded s) (boxAnswer s x)
 unfolding boxAnswer
-box-demand s x = of-reply Bounded (refusal (boxTests s x [] [])) (boxDistance s x) (box-bounded s [] [] x tt)
+box-demand s x = of-reply (Bounded s) (refusal (boxTests s x [] [])) (boxDistance s x) (box-bounded s [] [] x tt)
 
-pub convex-demand : (c s : List Float) → OfValue Bounded (convexAnswer c s)
+pub convex-demand : (c s : List Float) → OfValue (Bounded s) (convexAnswer c s)
 unfolding convexAnswer
 convex-demand c s =
-    of-reply Bounded (refusal (convexTests c s [])) (convexDistance c s)
+    of-reply (Bounded s) (refusal (convexTests c s [])) (convexDistance c s)
     (λ e. let t = taken 3 256 (c ∷ s ∷ []) (c ++ (s ++ [])) (axisTests s) tt e in
     both (t .shapes) (all-first c (s ++ []) (t .numbers)) (all-first s [] (all-rest c (s ++ []) (t .numbers))))
   where
-    both : All (ShapeTaken 3 256) (c ∷ s ∷ []) → All NumberTaken c → All NumberTaken s → Bounded (convexDistance c s)
-    both (cons h (cons k nil)) C S = hit-bounded (convex-atMost (taken-vertices h C) (taken-vertices k S)) tt
+    both : All (ShapeTaken 3 256) (c ∷ s ∷ []) → All NumberTaken c → All NumberTaken s → Bounded s (convexDistance c s)
+    both (cons h (cons k nil)) C S =
+        let K = taken-vertices k S in hit-bounded K (convex-atMost (taken-vertices h C) K) tt

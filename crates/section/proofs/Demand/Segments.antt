@@ -9,12 +9,13 @@ use Rattle.arith.specs.Num.{abs}
 use Rattle.arith.proofs.Laws.Quotients.{abs-over-e-18, div-finite, inside, InUnit, one-inUnit, over-e-24, zero-inUnit}
 use Rattle.arith.proofs.Laws.Sizes.{add-finite, Finite, finite-raise, hypot-finite, mul-finite, neg-finite, sub-finite}
 use Rattle.profile.proofs.Steps.{pick}
-use Rattle.segments.specs.Segments.{along, apart, unitClamp, closest, closestPlaces, dot, minus, places, segments}
+use Rattle.segments.specs.Segments.{along, apart, unitClamp, closest, closestPlaces, closestPoint, dot, minus, places, segments}
 use Rattle.segments.specs.declared.shapes.Places.{Places}
+use Rattle.profile.specs.declared.shapes.Edge.{Edge}
 use Rattle.profile.specs.declared.shapes.Vertex.{Vertex}
 use Rattle.section.proofs.Demand.Bounds.{add-atMost, finite-atMost}
 use Rattle.section.proofs.Demand.Bounds.{sub-atMost}
-use Rattle.section.proofs.Demand.Hits.{HitAtMost, vertex-raise, VertexAtMost}
+use Rattle.section.proofs.Demand.Hits.{EdgeAtMost, HitAtMost, on-atMost, vertex-raise, VertexAtMost}
 
 -- clamped to the part from 0 to 1
 pub clamped : {n : ℕ} {t : Float} → Finite n t → InUnit (unitClamp t)
@@ -44,9 +45,11 @@ apart-finite : {a b : Vertex} → VertexAtMost 25 a → VertexAtMost 25 b → Fi
 apart-finite A C = hypot-finite (sub-atMost (A .z) (C .z) tt) (sub-atMost (A .r) (C .r) tt) tt
 
 -- ---- a point and a segment
-pub closest-atMost : {p a b : Vertex} → VertexAtMost 23 p → VertexAtMost 23 a → VertexAtMost 23 b → HitAtMost 27 (closest p a b)
-unfolding closest
-closest-atMost {p} {a} {b} P A C = record { distance = apart-finite (vertex-raise P tt) at; witness = at }
+point-atMost : {p a b : Vertex} → VertexAtMost 23 p → VertexAtMost 23 a → VertexAtMost 23 b → VertexAtMost 25 (closestPoint p a b)
+unfolding closestPoint
+point-atMost {p} {a} {b} P A C =
+    pick (VertexAtMost 25) (dot d d ≼ e-24) (λ h. vertex-raise A tt)
+    (λ h. along-atMost A C (clamped (div-finite (dot-finite (minus-difference P A) D) len2 (over-e-24 len2 h) tt tt)))
   where
     d : Vertex
     d = minus b a
@@ -57,10 +60,11 @@ closest-atMost {p} {a} {b} P A C = record { distance = apart-finite (vertex-rais
     len2 : Finite 49 (dot d d)
     len2 = dot-finite D D
 
-    at : VertexAtMost 25 (cond (dot d d ≼ e-24) a (along a b (unitClamp (dot (minus p a) d ⊘ dot d d))))
-    at =
-        pick (VertexAtMost 25) (dot d d ≼ e-24) (λ h. vertex-raise A tt)
-        (λ h. along-atMost A C (clamped (div-finite (dot-finite (minus-difference P A) D) len2 (over-e-24 len2 h) tt tt)))
+pub closest-atMost : {m : ℕ} {p : Vertex} {e : Edge} → VertexAtMost 23 p → EdgeAtMost 23 m e → HitAtMost 27 m (closest p e)
+unfolding closest
+closest-atMost P E =
+    let at = point-atMost P (E .a) (E .b) in
+    record { distance = apart-finite (vertex-raise P tt) at; witness = on-atMost (E .number) at }
 
 -- ---- two segments
 pub record PlacesInUnit (p : Places) : Type 0 where
@@ -109,10 +113,12 @@ module _ {a b c e f : Float}
       first-end : T (not (a ≼ e-24)) → PlacesInUnit (places (unitClamp (neg c ⊘ a)) 𝟘)
       first-end g = record { s = clamped (by-a g (finite-raise (neg-finite C) tt)); t = zero-inUnit }
 
-pub segments-atMost : {p p′ q q′ : Vertex} → VertexAtMost 23 p → VertexAtMost 23 p′ → VertexAtMost 23 q → VertexAtMost 23 q′
-    → HitAtMost 27 (segments p p′ q q′)
+pub segments-atMost : {m : ℕ} {edge : Edge} {q q′ : Vertex} → EdgeAtMost 23 m edge → VertexAtMost 23 q → VertexAtMost 23 q′
+    → HitAtMost 27 m (segments edge q q′)
 unfolding segments
-segments-atMost P P′ Q Q′ =
+segments-atMost X Q Q′ =
+    let P = X .a in
+    let P′ = X .b in
     let d = minus-difference P′ P in
     let d′ = minus-difference Q′ Q in
     let r = minus-difference P Q in
@@ -122,5 +128,5 @@ segments-atMost P P′ Q Q′ =
     let e = dot-finite d′ d′ in
     let f = dot-finite d′ r in
     let at = closestPlaces-inUnit a b c e f in
-    let on = along-atMost P P′ (at .s) in
-    record { distance = apart-finite on (along-atMost Q Q′ (at .t)); witness = on }
+    let first = along-atMost P P′ (at .s) in
+    record { distance = apart-finite first (along-atMost Q Q′ (at .t)); witness = on-atMost (X .number) first }

@@ -10,7 +10,7 @@ use Rattle.arith.proofs.Laws.Intervals.{Intervals, interval-finite}
 use Rattle.arith.proofs.Laws.OrderHeld.{number-held}
 use Rattle.arith.proofs.Laws.Sizes.{Finite, add-finite, finite-raise, half-finite, mul-finite, sub-finite, zero-finite}
 use Rattle.points.specs.Points.{pointDistance}
-use Rattle.profile.specs.Vertices.{hit, nearer, nearestOf, vertex}
+use Rattle.profile.specs.Vertices.{count, hit, nearer, nearestOf, on, vertex}
 use Rattle.profile.specs.declared.shapes.CollisionHit.{CollisionHit}
 use Rattle.profile.proofs.Numbers.{NumberHit, infinite, nearest-number}
 use Rattle.profile.proofs.Steps.{upto-keeps}
@@ -44,13 +44,14 @@ module _ {b : RadialBand} (B : InLimit b) where
       chosen (suc zero) = r .hi
       chosen (suc (suc j)) = half-finite (add-finite (r .lo) (r .hi) tt) tt
 
-  pub sampled-best : {s : List Float} → VerticesAtMost 23 s → {n : ℕ} → Intervals n → BestAtMost 27 (sampled s b n)
+  pub sampled-best : {s : List Float} → VerticesAtMost 23 s → {n : ℕ} → Intervals n → BestAtMost 27 (count s) (sampled s b n)
   unfolding sampled
   sampled-best {s} S {n} N =
-      upto-keeps (BestAtMost 27) (λ i best. nearestOf (λ j. pointDistance s (sampleVertex b (sampleZ b n i) j)) best 3)
-      (hit ∞ (vertex (b .zc) 𝟘)) (suc n)
-      (none-yet refl (record { z = finite-atMost (finite-raise (B .zc) tt); r = finite-atMost (zero-finite 25) }))
-      (λ i l best A. upto-keeps (BestAtMost 27)
+      upto-keeps (BestAtMost 27 (count s)) (λ i best. nearestOf (λ j. pointDistance s (sampleVertex b (sampleZ b n i) j)) best 3)
+      (hit ∞ (on 0 (vertex (b .zc) 𝟘))) (suc n)
+      (none-yet refl
+      (record { z = finite-atMost (finite-raise (B .zc) tt); r = finite-atMost (zero-finite 25); edge = S .some }))
+      (λ i l best A. upto-keeps (BestAtMost 27 (count s))
       (λ j best. nearer best (pointDistance s (sampleVertex b (sampleZ b n i) j))) best 3 A
       (λ j m c C. nearer-best C (point-best S (sampleAt-atMost (sampleZ-finite N i (le-of-suc-le-suc l)) j))))
 

@@ -12,6 +12,7 @@ use Rattle.arith.proofs.Laws.Intervals.{Intervals}
 use Rattle.arith.proofs.Laws.OrderHeld.{none-above-inf}
 use Rattle.arith.proofs.Laws.Sizes.{add-finite, e-12-finite, Finite, finite-ends, finite-raise}
 use Rattle.profile.proofs.Steps.{pick}
+use Rattle.profile.specs.Vertices.{count}
 use Rattle.profile.specs.declared.shapes.CollisionHit.{CollisionHit}
 use Rattle.section.proofs.Demand.Boxes.{box-atMost}
 use Rattle.section.proofs.Demand.Hits.{BestAtMost, HitAtMost, LeastAtMost, VerticesAtMost, found, min-new, nearer-new}
@@ -27,30 +28,31 @@ use Rattle.walk.proofs.Demand.Pieces.{wholeWidth-sound}
 use Rattle.walk.proofs.Demand.Samples.{sampled-best}
 
 -- nothing is dropped as long as best is +infinity
-better-atMost : {m best : CollisionHit} {v : Float} → HitAtMost 27 m → Finite 23 v → BestAtMost 28 best
-    → HitAtMost 28 (better m v best)
-better-atMost {m} {best} {v} H D A =
-    pick (HitAtMost 28) (dropped m best) (kept A)
+better-atMost : {j : ℕ} {m best : CollisionHit} {v : Float} → HitAtMost 27 j m → Finite 23 v → BestAtMost 28 j best
+    → HitAtMost 28 j (better m v best)
+better-atMost {j} {m} {best} {v} H D A =
+    pick (HitAtMost 28 j) (dropped m best) (kept A)
     (λ h. nearer-new A (record { distance = add-finite (H .distance) D tt; witness = H .witness }))
   where
-    kept : BestAtMost 28 best → T (best .distance ⊕ e-12 ≺ m .distance) → HitAtMost 28 best
+    kept : BestAtMost 28 j best → T (best .distance ⊕ e-12 ≺ m .distance) → HitAtMost 28 j best
     kept (found B) h = B
     kept (none-yet e w) h =
         absurd (none-above-inf (m .distance) (rw (infinity-plus e-12 (finite-ends e-12-finite) binary64) at (rw e at h)))
 
 -- ---- a walk that has measured a box
-pub record WalkAtMost (w : Walk) : Type 0 where
-  pub best : HitAtMost 28 (w .best)
+pub record WalkAtMost (j : ℕ) (w : Walk) : Type 0 where
+  pub best : HitAtMost 28 j (w .best)
   pub least : Finite 27 (w .least)
 
 module _ {s : List Float} (S : VerticesAtMost 23 s) {b : RadialBand} (B : InLimit b) (tol : Float) where
-  measured-atMost : {p : Piece} → Sound p → (ps : List Piece) (w : Walk) → BestAtMost 28 (w .best)
-      → LeastAtMost 27 (w .least) → WalkAtMost (measured s b tol p ps w)
+  measured-atMost : {p : Piece} → Sound p → (ps : List Piece) (w : Walk) → BestAtMost 28 (count s) (w .best)
+      → LeastAtMost 27 (w .least) → WalkAtMost (count s) (measured s b tol p ps w)
   measured-atMost P ps w A L =
       let m = box-atMost S (boxOf-atMost B P) in
       record { best = better-atMost m (variation-finite B P) A; least = min-new L (m .distance) }
 
-  walk-atMost : (n : ℕ) (ps : List Piece) (w : Walk) → All Sound ps → WalkAtMost w → WalkAtMost (walk s b tol n ps w)
+  walk-atMost : (n : ℕ) (ps : List Piece) (w : Walk) → All Sound ps → WalkAtMost (count s) w
+      → WalkAtMost (count s) (walk s b tol n ps w)
   unfolding walk
   walk-atMost zero [] w A W = W
   walk-atMost zero (p ∷ ps) w A W = record { best = W .best; least = W .least }
@@ -60,20 +62,20 @@ module _ {s : List Float} (S : VerticesAtMost 23 s) {b : RadialBand} (B : InLimi
       (measured-atMost P ps w (found (W .best)) (some-distance (W .least)))
 
   -- the first piece is measured, whatever the start
-  starts-atMost : (cap : ℕ) {p : Piece} → Sound p → {best : CollisionHit} → 0 < cap → BestAtMost 28 best
-      → WalkAtMost (walk s b tol cap (p ∷ []) (start best))
+  starts-atMost : (cap : ℕ) {p : Piece} → Sound p → {best : CollisionHit} → 0 < cap → BestAtMost 28 (count s) best
+      → WalkAtMost (count s) (walk s b tol cap (p ∷ []) (start best))
   unfolding walk
   starts-atMost zero P l A = let c : ⊥ = omega arith in absurd c
   starts-atMost (suc cap) P {best} l A =
       walk-atMost cap _ _ (waiting-sound s b tol P nil best) (measured-atMost P [] (start best) A (no-distance refl))
 
-  pub walkAll-atMost : (cap : ℕ) → 0 < cap → {n : ℕ} → Intervals n → WalkAtMost (walkAll s b tol cap n)
+  pub walkAll-atMost : (cap : ℕ) → 0 < cap → {n : ℕ} → Intervals n → WalkAtMost (count s) (walkAll s b tol cap n)
   unfolding walkAll
   walkAll-atMost cap l N = starts-atMost cap (wholeWidth-sound B) l (best-raise (sampled-best B S N) tt)
 
 -- what is reported, cut or not
-pub walked-atMost : {w : Walk} → WalkAtMost w → HitAtMost 28 (walked w .hit)
-walked-atMost {w} W =
+pub walked-atMost : {j : ℕ} {w : Walk} → WalkAtMost j w → HitAtMost 28 j (walked w .hit)
+walked-atMost {w = w} W =
     record {
       distance = pick (Finite 28) (w .cut) (λ h. finite-raise (W .least) tt) (λ h. W .best .distance);
       witness = W .best .witness;

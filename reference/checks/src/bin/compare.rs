@@ -1,6 +1,7 @@
 //! Compares the port with the published Rust (exact hypot) and with the table of refusals, on inputs from a seed.
 
-use checks::query::{Answer, Kind, Query};
+use checks::answer::Answer;
+use checks::query::{Kind, Query};
 use checks::random::Random;
 use checks::{generate, judge, near, port, shrink};
 use std::collections::BTreeMap;

@@ -93,8 +93,23 @@ fn size(random: &mut Random) -> f64 {
     }
 }
 
-/// A box with a side, a corner or its middle at the target, or one around most of the section.
+/// A box around all of the section, or nearly.
+fn around(random: &mut Random, section: &[Vertex]) -> [f64; 4] {
+    let ends = |of: fn(&Vertex) -> f64| {
+        let all = section.iter().map(of);
+        (all.clone().fold(f64::INFINITY, f64::min), all.fold(f64::NEG_INFINITY, f64::max))
+    };
+    let ((z0, z1), (r0, r1)) = (ends(|v| v.0), ends(|v| v.1));
+    let (z0, z1) = ordered(z0 - gap(random), z1 + gap(random));
+    let (r0, r1) = ordered(r0 - gap(random), r1 + gap(random));
+    [z0, z1, r0, r1].map(limited)
+}
+
+/// A box with a side, a corner or its middle at the target, or one around the section.
 fn aabb(random: &mut Random, style: Style, section: &[Vertex]) -> [f64; 4] {
+    if random.chance(1, 10) {
+        return around(random, section);
+    }
     let (z, r) = target(random, style, section);
     let (z, r) = (z, if random.chance(1, 10) { r } else { r.abs() });
     let (w, h) = (size(random), size(random));

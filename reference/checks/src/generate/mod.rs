@@ -25,9 +25,11 @@ pub enum Style {
     Subnormal,
     /// All of these, and zeros of both signs.
     Mixed,
+    /// Whole numbers from -3 to 3: vertices come again, edges have no length, and many edges are equally near.
+    Whole,
 }
 
-const STYLES: [Style; 12] = [
+const STYLES: [Style; 15] = [
     Style::Drawing,
     Style::Drawing,
     Style::Drawing,
@@ -40,6 +42,9 @@ const STYLES: [Style; 12] = [
     Style::Tiny,
     Style::Subnormal,
     Style::Mixed,
+    Style::Whole,
+    Style::Whole,
+    Style::Whole,
 ];
 
 /// Radii and gaps that the thresholds look at.
@@ -65,6 +70,7 @@ impl Style {
                 let size = f64::from_bits(random.bits() >> random.whole(12, 63));
                 random.sign(size)
             }
+            Style::Whole => random.whole(-3, 3) as f64,
             Style::Mixed => match random.below(8) {
                 0 => 0.0,
                 1 => -0.0,

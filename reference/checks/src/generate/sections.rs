@@ -42,6 +42,9 @@ pub fn polygon(random: &mut Random, style: Style, most: usize) -> Vec<Vertex> {
     if random.chance(1, 4) {
         spice(random, style, &mut vertices);
     }
+    if matches!(style, Style::Whole) && random.chance(1, 2) {
+        again(random, &mut vertices);
+    }
     rotated(random, vertices)
 }
 
@@ -108,6 +111,15 @@ fn spice(random: &mut Random, style: Style, vertices: &mut [Vertex]) {
         // Neither limit may be passed.
         vertices[i].0 = vertices[i].0.clamp(-table::LIMIT, table::LIMIT);
         vertices[i].1 = vertices[i].1.clamp(-table::LIMIT, table::LIMIT);
+    }
+}
+
+/// Vertices that come again, beside the first or apart, and edges there and back.
+fn again(random: &mut Random, vertices: &mut [Vertex]) {
+    for _ in 0..1 + vertices.len() / 4 {
+        let (i, count) = (random.below(vertices.len()), vertices.len());
+        let other = random.pick(&[1, 1, 2, 3]);
+        vertices[(i + other) % count] = vertices[i];
     }
 }
 

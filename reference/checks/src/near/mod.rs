@@ -7,9 +7,10 @@ mod cylinder;
 mod point;
 mod settings;
 
+use crate::answer::Answer;
 use crate::generate::{self, Style, list, rotated};
 use crate::judge;
-use crate::query::{Answer, Kind, Query};
+use crate::query::{Kind, Query};
 use crate::random::{Random, within_four};
 
 /// A query, the number that is compared in it, and what with.
@@ -89,11 +90,9 @@ fn clearance(random: &mut Random, kind: Kind) -> Near {
         let last = query.numbers.len() - 1;
         let body = Query::new(judged, &query.lists, &query.numbers[..last]);
         let distance = match judge::expected(&body) {
-            Answer::Values(values) => values[0],
-            Answer::Walked(hit, _) => hit[0],
-            Answer::Refused(_) | Answer::Spoilt(_) | Answer::Split(_) | Answer::Built(..) | Answer::Verdict(_) => {
-                continue;
-            }
+            Answer::Hit(hit) | Answer::Walked(hit, _) => hit.distance,
+            Answer::Refused(_) | Answer::Spoilt(_) | Answer::Split(_) => continue,
+            Answer::Root(_) | Answer::Built(..) | Answer::Verdict(_) => continue,
         };
         let threshold = distance + 1e-9;
         query.numbers[last] = random.near(threshold);

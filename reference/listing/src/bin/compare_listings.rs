@@ -1,7 +1,7 @@
 //! Runs the verified listing program and the reference on the same stores and counts differences.
 
 use listing_ref::listing;
-use listing_ref::stores::{S, Stores, example, in_order};
+use listing_ref::stores::{S, Stores, example, in_order, longest};
 use std::io::{Read, Write};
 use std::process::{Command, Stdio};
 
@@ -25,9 +25,9 @@ fn run(program: &str, store: &[u8], piece: usize) -> Vec<u8> {
     text
 }
 
-/// 01's example, its lengths, every single-bit flip of the example, and the largest listing.
+/// 01's example, its lengths, every single-bit flip of the example, and the largest stores and listings.
 fn named() -> Vec<Vec<u8>> {
-    let mut stores = vec![example(), Vec::new()];
+    let mut stores = vec![example(), Vec::new(), longest()];
     for length in [1, 39, 40, 41, 80, 20_440, 20_479, 20_480, 20_481, 20_519, 20_520, 20_521, 100_000, 100_001] {
         stores.push(vec![0; length]);
     }

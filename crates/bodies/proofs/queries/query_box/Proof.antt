@@ -26,7 +26,7 @@ returns : tie.Need-returns
 unfolding bodyAnswer
 returns c =
     let a = c .before .before .before .before .before .args in
-    answered (λ (h : CountedHit). Bounded (h .hit)) (box-promised _ (a .settings) (a .x))
+    answered (λ (h : CountedHit). Bounded _ (h .hit)) (box-promised _ (a .settings) (a .x))
     (rw (← c .before .box-refusal .ensures (settingsTests (a .settings)) tt (c .before .before .settings-refusal .ensures))
     (refused _ _ (c .if1 .taken)))
 
@@ -45,7 +45,7 @@ unfolding bodyAnswer
 returns-2 c =
     let a = c .before .before .before .before .before .before .before .args in
     let number = c .before .before .before .before .settings-refusal .ensures in
-    answered (λ (h : CountedHit). Bounded (h .hit)) (box-promised _ (a .settings) (a .x))
+    answered (λ (h : CountedHit). Bounded _ (h .hit)) (box-promised _ (a .settings) (a .x))
     (rw (
       ← c .before .before .before .box-refusal .ensures (settingsTests (a .settings)) tt number,
       c .before .before .if1 .left,

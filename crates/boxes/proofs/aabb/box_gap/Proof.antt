@@ -4,7 +4,7 @@ use native.Mathlib.Omega.{arith}
 use mathlib.Core.Path.{_≡_}
 use borrow.Author.Needs.{needs}
 use Rattle.arith.specs.F64.{∞}
-use Rattle.profile.specs.Vertices.{hit, vertexAt, endAt, upto, nearestOf}
+use Rattle.profile.specs.Vertices.{on, hit, vertexAt, edgeAt, upto, nearestOf}
 use Rattle.boxes.specs.Boxes.{edgeBox, boxGap}
 use Rattle.profile.proofs.Fold.{upto-more, upto-end}
 use Rattle.boxes.proofs.aabb.box_gap.Statement.{statement}
@@ -12,7 +12,7 @@ use Rattle.boxes.proofs.aabb.box_gap.Tie as tie
 
 abbrev Inv-loop : tie.InvT-loop
 Inv-loop s x n best₀ k₀ best k =
-    (k ≤ n) × (best ≡ nearestOf (λ j. edgeBox x (vertexAt s j) (endAt s j)) (hit ∞ (vertexAt s 0)) k)
+    (k ≤ n) × (best ≡ nearestOf (λ j. edgeBox x (edgeAt s j)) (hit ∞ (on 0 (vertexAt s 0))) k)
 
 abbrev μ-loop : tie.MeasureT-loop
 μ-loop s x n best₀ k₀ best k = n - k
@@ -23,9 +23,12 @@ infinity-requires c κs = search needs
 vertex-at-requires : tie.Need-vertex-at-requires Inv-loop μ-loop
 vertex-at-requires c κs = search needs
 
+on-requires : tie.Need-on-requires Inv-loop μ-loop
+on-requires c κs = search needs
+
 loop-holds : tie.Need-loop-holds Inv-loop μ-loop
 unfolding upto
-loop-holds c = (search needs, rw (c .vertex-at .ensures, c .before .infinity .ensures))
+loop-holds c = (search needs, rw (c .on .ensures, c .before .vertex-at .ensures, c .before .before .infinity .ensures))
 
 gap-at-requires : tie.Need-gap-at-requires Inv-loop μ-loop
 gap-at-requires c κs = search needs
@@ -51,6 +54,7 @@ box-gap-spec =
     μ-loop
     infinity-requires
     vertex-at-requires
+    on-requires
     loop-holds
     gap-at-requires
     add-k

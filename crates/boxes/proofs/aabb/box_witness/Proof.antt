@@ -4,7 +4,7 @@ use native.Mathlib.Omega.{arith}
 use mathlib.Core.Bool.{cond}
 use mathlib.Core.Path.{_≡_, refl}
 use borrow.Author.Needs.{needs}
-use Rattle.profile.specs.Vertices.{vertexAt, upto}
+use Rattle.profile.specs.Vertices.{on, vertexAt, upto}
 use Rattle.boxes.specs.Boxes.{strictlyInsideAabb, boxWitness}
 use Rattle.profile.proofs.Fold.{upto-more, upto-end}
 use Rattle.boxes.proofs.aabb.box_witness.Statement.{statement}
@@ -12,7 +12,7 @@ use Rattle.boxes.proofs.aabb.box_witness.Tie as tie
 
 abbrev Inv-loop : tie.InvT-loop
 Inv-loop s x n at₀ k₀ at k =
-    (k ≤ n) × (at ≡ upto (λ j at. cond (strictlyInsideAabb x (vertexAt s j)) (vertexAt s j) at) at₀ k)
+    (k ≤ n) × (at ≡ upto (λ j at. cond (strictlyInsideAabb x (vertexAt s j)) (on j (vertexAt s j)) at) at₀ k)
 
 abbrev μ-loop : tie.MeasureT-loop
 μ-loop s x n at₀ k₀ at k = n - k

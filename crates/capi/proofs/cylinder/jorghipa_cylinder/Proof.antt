@@ -3,7 +3,7 @@ use borrow.Author.Needs.{needs}
 use native.Mathlib.Omega.{arith}
 use mathlib.Core.Path.{ap}
 use Rattle.cylinders.specs.Cylinders.{told}
-use Rattle.capi.proofs.Same.{few, measures, walked}
+use Rattle.capi.proofs.Same.{few, few-edges, measures, walked}
 use Rattle.capi.proofs.cylinder.jorghipa_cylinder.Statement.{statement}
 use Rattle.capi.proofs.cylinder.jorghipa_cylinder.Tie as tie
 
@@ -20,16 +20,18 @@ give-counts-requires c κs =
     few _ _ _ (omega (arith, x)) (ap told (d .answer .given .1)) (d .before .before .query-cylinder .ensures .owed)
 
 give-requires : tie.Need-give-requires
-give-requires c κs = search needs
+give-requires c κs =
+    let d = c .before .before .before .before .before .before .before .before .before .before in
+    few-edges _ _ _ (ap told (d .answer .given .1)) (d .before .before .query-cylinder .ensures .owed)
 
 enum-known-answer-2 : tie.Need-enum-known-answer-2
 enum-known-answer-2 c = search needs
 
 returns : tie.Need-returns
 returns c =
-    let d = c .before .before .before .before .before .before .before .before .before .before in
+    let d = c .before .before .before .before .before .before .before .before .before .before .before in
     measures (d .before .before .query-cylinder .ensures)
-    (walked (ap told (d .answer .given .1)) (c .give .ensures) (c .before .before .before .before .give-counts .ensures))
+    (walked (ap told (d .answer .given .1)) (c .give .ensures) (c .before .before .before .before .before .give-counts .ensures))
 
 returns-2 : tie.Need-returns-2
 returns-2 c =

@@ -4,14 +4,14 @@ use native.Mathlib.Omega.{arith}
 use mathlib.Core.Path.{_≡_}
 use borrow.Author.Needs.{needs}
 use Rattle.arith.specs.F64.{∞}
-use Rattle.profile.specs.Vertices.{hit, vertexAt, upto}
+use Rattle.profile.specs.Vertices.{on, hit, vertexAt, upto}
 use Rattle.convex.specs.Convex.{convexRow, convexGap}
 use Rattle.profile.proofs.Fold.{upto-more, upto-end}
 use Rattle.convex.proofs.convex.convex_gap.Statement.{statement}
 use Rattle.convex.proofs.convex.convex_gap.Tie as tie
 
 abbrev Inv-loop : tie.InvT-loop
-Inv-loop c s n best₀ i₀ best i = (i ≤ n) × (best ≡ upto (convexRow c s) (hit ∞ (vertexAt s 0)) i)
+Inv-loop c s n best₀ i₀ best i = (i ≤ n) × (best ≡ upto (convexRow c s) (hit ∞ (on 0 (vertexAt s 0))) i)
 
 abbrev μ-loop : tie.MeasureT-loop
 μ-loop c s n best₀ i₀ best i = n - i
@@ -22,9 +22,12 @@ infinity-requires c κs = search needs
 vertex-at-requires : tie.Need-vertex-at-requires Inv-loop μ-loop
 vertex-at-requires c κs = search needs
 
+on-requires : tie.Need-on-requires Inv-loop μ-loop
+on-requires c κs = search needs
+
 loop-holds : tie.Need-loop-holds Inv-loop μ-loop
 unfolding upto
-loop-holds c = (search needs, rw (c .vertex-at .ensures, c .before .infinity .ensures))
+loop-holds c = (search needs, rw (c .on .ensures, c .before .vertex-at .ensures, c .before .before .infinity .ensures))
 
 convex-row-requires : tie.Need-convex-row-requires Inv-loop μ-loop
 convex-row-requires c κs = search needs
@@ -50,6 +53,7 @@ convex-gap-spec =
     μ-loop
     infinity-requires
     vertex-at-requires
+    on-requires
     loop-holds
     convex-row-requires
     add-i

@@ -5,7 +5,7 @@ use mathlib.Core.Path.{_≡_}
 use borrow.Author.Needs.{needs}
 use Rattle.arith.specs.F64.{∞}
 use Rattle.arith.specs.Num.{min}
-use Rattle.profile.specs.Vertices.{vertexAt, endAt, upto}
+use Rattle.profile.specs.Vertices.{edgeAt, upto}
 use Rattle.segments.specs.Segments.{closest}
 use Rattle.convex.specs.Convex.{convexNear}
 use Rattle.profile.proofs.Fold.{upto-more, upto-end}
@@ -14,7 +14,7 @@ use Rattle.convex.proofs.convex.convex_near.Tie as tie
 
 abbrev Inv-loop : tie.InvT-loop
 Inv-loop c p n best₀ k₀ best k =
-    (k ≤ n) × (best ≡ upto (λ j best. min best (closest p (vertexAt c j) (endAt c j) .distance)) ∞ k)
+    (k ≤ n) × (best ≡ upto (λ j best. min best (closest p (edgeAt c j) .distance)) ∞ k)
 
 abbrev μ-loop : tie.MeasureT-loop
 μ-loop c p n best₀ k₀ best k = n - k

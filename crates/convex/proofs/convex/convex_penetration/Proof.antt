@@ -3,7 +3,7 @@ use Prim.Native.Nat.{_≤_, _-_}
 use native.Mathlib.Omega.{arith}
 use mathlib.Core.Path.{_≡_, refl}
 use borrow.Author.Needs.{needs}
-use Rattle.profile.specs.Vertices.{hit, vertexAt, upto, nearestOf}
+use Rattle.profile.specs.Vertices.{on, hit, vertexAt, upto, nearestOf}
 use Rattle.convex.specs.Convex.{signedDistanceConvex, convexPenetration}
 use Rattle.profile.proofs.Fold.{upto-more, upto-end}
 use Rattle.convex.proofs.convex.convex_penetration.Statement.{statement}
@@ -11,7 +11,7 @@ use Rattle.convex.proofs.convex.convex_penetration.Tie as tie
 
 abbrev Inv-loop : tie.InvT-loop
 Inv-loop c s m best₀ j₀ best j =
-    (j ≤ m) × (best ≡ nearestOf (λ k. hit (signedDistanceConvex c (vertexAt s k)) (vertexAt s k)) best₀ j)
+    (j ≤ m) × (best ≡ nearestOf (λ k. hit (signedDistanceConvex c (vertexAt s k)) (on k (vertexAt s k))) best₀ j)
 
 abbrev μ-loop : tie.MeasureT-loop
 μ-loop c s m best₀ j₀ best j = m - j

@@ -3,7 +3,7 @@ use Prim.Native.Nat.{_≤_, _-_}
 use native.Mathlib.Omega.{arith}
 use mathlib.Core.Path.{_≡_, refl}
 use borrow.Author.Needs.{needs}
-use Rattle.profile.specs.Vertices.{vertexAt, endAt, upto, nearestOf}
+use Rattle.profile.specs.Vertices.{edgeAt, upto, nearestOf}
 use Rattle.segments.specs.Segments.{segments}
 use Rattle.convex.specs.Convex.{convexRow}
 use Rattle.profile.proofs.Fold.{upto-more, upto-end}
@@ -12,7 +12,7 @@ use Rattle.convex.proofs.convex.convex_row.Tie as tie
 
 abbrev Inv-loop : tie.InvT-loop
 Inv-loop c s i a b m best₀ j₀ best j =
-    (j ≤ m) × (best ≡ nearestOf (λ k. segments (vertexAt s k) (endAt s k) a b) best₀ j)
+    (j ≤ m) × (best ≡ nearestOf (λ k. segments (edgeAt s k) a b) best₀ j)
 
 abbrev μ-loop : tie.MeasureT-loop
 μ-loop c s i a b m best₀ j₀ best j = m - j

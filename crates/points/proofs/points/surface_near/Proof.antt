@@ -3,7 +3,7 @@ use Prim.Native.Nat.{_≤_, _-_}
 use native.Mathlib.Omega.{arith}
 use mathlib.Core.Path.{_≡_}
 use Rattle.arith.specs.F64.{∞}
-use Rattle.profile.specs.Vertices.{hit, vertexAt, upto}
+use Rattle.profile.specs.Vertices.{on, hit, vertexAt, upto}
 use Rattle.points.specs.Points.{surfaceStep, surfaceNear}
 use Rattle.profile.proofs.Fold.{upto-more, upto-end}
 use borrow.Author.Needs.{needs}
@@ -11,7 +11,7 @@ use Rattle.points.proofs.points.surface_near.Statement.{statement}
 use Rattle.points.proofs.points.surface_near.Tie as tie
 
 abbrev Inv-loop : tie.InvT-loop
-Inv-loop s p n best₀ k₀ best k = (k ≤ n) × (best ≡ upto (surfaceStep s p) (hit ∞ (vertexAt s 0)) k)
+Inv-loop s p n best₀ k₀ best k = (k ≤ n) × (best ≡ upto (surfaceStep s p) (hit ∞ (on 0 (vertexAt s 0))) k)
 
 abbrev μ-loop : tie.MeasureT-loop
 μ-loop s p n best₀ k₀ best k = n - k
@@ -22,9 +22,12 @@ infinity-requires c κs = search needs
 vertex-at-requires : tie.Need-vertex-at-requires Inv-loop μ-loop
 vertex-at-requires c κs = search needs
 
+on-requires : tie.Need-on-requires Inv-loop μ-loop
+on-requires c κs = search needs
+
 loop-holds : tie.Need-loop-holds Inv-loop μ-loop
 unfolding upto
-loop-holds c = (search needs, rw (c .vertex-at .ensures, c .before .infinity .ensures))
+loop-holds c = (search needs, rw (c .on .ensures, c .before .vertex-at .ensures, c .before .before .infinity .ensures))
 
 surface-step-requires : tie.Need-surface-step-requires Inv-loop μ-loop
 surface-step-requires c κs = search needs
@@ -50,6 +53,7 @@ surface-near-spec =
     μ-loop
     infinity-requires
     vertex-at-requires
+    on-requires
     loop-holds
     surface-step-requires
     add-k

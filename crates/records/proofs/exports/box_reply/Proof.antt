@@ -1,8 +1,9 @@
 -- `records::exports::box_reply` meets its contract: the reply of the answer on the front.
 use borrow.Author.Needs.{needs}
 use Rattle.section.specs.Answers.{told, boxAnswer}
+use Rattle.section.proofs.Demand.Queries.{bounded-few}
 use Rattle.records.specs.Replies.{cReply}
-use Rattle.records.proofs.Replied.{replied}
+use Rattle.records.proofs.Replied.{owed-front, replied}
 use Rattle.records.proofs.exports.box_reply.Statement.{statement}
 use Rattle.records.proofs.exports.box_reply.Tie as tie
 
@@ -13,7 +14,7 @@ box-front-requires : tie.Need-box-front-requires
 box-front-requires c κs = search needs
 
 reply-of-requires : tie.Need-reply-of-requires
-reply-of-requires c κs = search needs
+reply-of-requires c κs = owed-front told boxAnswer (λ s h. bounded-few h) (c .box-front .ensures) tt
 
 returns : tie.Need-returns
 returns c =

@@ -2,8 +2,9 @@
 use borrow.Author.Needs.{needs}
 use Rattle.settings.specs.Settings.{finest}
 use Rattle.cylinders.specs.Cylinders.{told, cylinderAnswer}
+use Rattle.section.proofs.Demand.Queries.{bounded-few}
 use Rattle.records.specs.Replies.{cCylinderReply}
-use Rattle.records.proofs.Replied.{replied}
+use Rattle.records.proofs.Replied.{owed-front, replied}
 use Rattle.records.proofs.exports.cylinder_reply.Statement.{statement}
 use Rattle.records.proofs.exports.cylinder_reply.Tie as tie
 
@@ -14,7 +15,9 @@ cylinder-front-requires : tie.Need-cylinder-front-requires
 cylinder-front-requires c κs = search needs
 
 cylinder-reply-of-requires : tie.Need-cylinder-reply-of-requires
-cylinder-reply-of-requires c κs = search needs
+cylinder-reply-of-requires c κs =
+    owed-front told (λ s b. cylinderAnswer s b finest) (λ s h p. bounded-few (h .hit) (p .bounded))
+    (c .cylinder-front .ensures) tt
 
 returns : tie.Need-returns
 returns c =

@@ -1,8 +1,9 @@
 -- `records::exports::point_reply` meets its contract: the reply of the answer on the front.
 use borrow.Author.Needs.{needs}
 use Rattle.section.specs.Answers.{told, pointAnswer}
+use Rattle.section.proofs.Demand.Queries.{boundedOffAxis-few}
 use Rattle.records.specs.Replies.{cReply}
-use Rattle.records.proofs.Replied.{replied}
+use Rattle.records.proofs.Replied.{owed-front, replied}
 use Rattle.records.proofs.exports.point_reply.Statement.{statement}
 use Rattle.records.proofs.exports.point_reply.Tie as tie
 
@@ -13,7 +14,7 @@ point-front-requires : tie.Need-point-front-requires
 point-front-requires c κs = search needs
 
 reply-of-requires : tie.Need-reply-of-requires
-reply-of-requires c κs = search needs
+reply-of-requires c κs = owed-front told pointAnswer (λ s h. boundedOffAxis-few h) (c .point-front .ensures) tt
 
 returns : tie.Need-returns
 returns c =

@@ -1,8 +1,9 @@
 -- `records::exports::sphere_reply` meets its contract: the reply of the answer on the front.
 use borrow.Author.Needs.{needs}
 use Rattle.section.specs.Answers.{told, sphereAnswer}
+use Rattle.section.proofs.Demand.Queries.{boundedOffAxis-few}
 use Rattle.records.specs.Replies.{cReply}
-use Rattle.records.proofs.Replied.{replied}
+use Rattle.records.proofs.Replied.{owed-front, replied}
 use Rattle.records.proofs.exports.sphere_reply.Statement.{statement}
 use Rattle.records.proofs.exports.sphere_reply.Tie as tie
 
@@ -13,7 +14,7 @@ sphere-front-requires : tie.Need-sphere-front-requires
 sphere-front-requires c κs = search needs
 
 reply-of-requires : tie.Need-reply-of-requires
-reply-of-requires c κs = search needs
+reply-of-requires c κs = owed-front told sphereAnswer (λ s h. boundedOffAxis-few h) (c .sphere-front .ensures) tt
 
 returns : tie.Need-returns
 returns c =

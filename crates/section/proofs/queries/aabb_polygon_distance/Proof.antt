@@ -20,7 +20,9 @@ box-refusal-requires c κs = search needs
 
 returns : tie.Need-returns
 unfolding boxAnswer
-returns c = answered Bounded (box-demand _ _) (rw (← c .before .box-refusal .ensures [] tt no-settings) (refused _ _ (c .if1 .taken)))
+returns c =
+    answered (Bounded _) (box-demand _ _)
+    (rw (← c .before .box-refusal .ensures [] tt no-settings) (refused _ _ (c .if1 .taken)))
 
 box-distance-requires : tie.Need-box-distance-requires
 box-distance-requires c κs = section-long _ _ (axisTests _ ++ boundsTests _) tt (sym (c .before .box-refusal .ensures [] tt no-settings) ∙ c .if1 .left)
@@ -28,7 +30,8 @@ box-distance-requires c κs = section-long _ _ (axisTests _ ++ boundsTests _) tt
 returns-2 : tie.Need-returns-2
 unfolding boxAnswer
 returns-2 c =
-    answered Bounded (box-demand _ _) (rw (← c .before .before .box-refusal .ensures [] tt no-settings, c .before .if1 .left, c .box-distance .ensures))
+    answered (Bounded _) (box-demand _ _)
+    (rw (← c .before .before .box-refusal .ensures [] tt no-settings, c .before .if1 .left, c .box-distance .ensures))
 
 pub aabb-polygon-distance-spec : {M : Type 1} → statement M
 aabb-polygon-distance-spec =

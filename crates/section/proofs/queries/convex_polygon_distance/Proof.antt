@@ -18,7 +18,7 @@ convex-refusal-requires c κs = search needs
 
 returns : tie.Need-returns
 unfolding convexAnswer
-returns c = answered Bounded (convex-demand _ _) (rw (← c .before .convex-refusal .ensures) (refused _ _ (c .if1 .taken)))
+returns c = answered (Bounded _) (convex-demand _ _) (rw (← c .before .convex-refusal .ensures) (refused _ _ (c .if1 .taken)))
 
 convex-distance-requires : tie.Need-convex-distance-requires
 convex-distance-requires c κs = convex-long _ _ _ (axisTests _) tt (sym (c .before .convex-refusal .ensures) ∙ c .if1 .left)
@@ -26,7 +26,8 @@ convex-distance-requires c κs = convex-long _ _ _ (axisTests _) tt (sym (c .bef
 returns-2 : tie.Need-returns-2
 unfolding convexAnswer
 returns-2 c =
-    answered Bounded (convex-demand _ _) (rw (← c .before .before .convex-refusal .ensures, c .before .if1 .left, c .convex-distance .ensures))
+    answered (Bounded _) (convex-demand _ _)
+    (rw (← c .before .before .convex-refusal .ensures, c .before .if1 .left, c .convex-distance .ensures))
 
 pub convex-polygon-distance-spec : {M : Type 1} → statement M
 convex-polygon-distance-spec =

@@ -1,18 +1,18 @@
 -- `segments::segment::closest_point` meets its contract.
-use Rattle.segments.specs.Segments.{closest}
+use Rattle.segments.specs.Segments.{closestPoint}
 use borrow.Author.Needs.{needs}
 use Rattle.segments.proofs.segment.closest_point.Statement.{statement}
 use Rattle.segments.proofs.segment.closest_point.Tie as tie
 
 returns : tie.Need-returns
-unfolding closest
+unfolding closestPoint
 returns c = rw (c .if1 .taken)
 
 unit-clamp-requires : tie.Need-unit-clamp-requires
 unit-clamp-requires c κs = search needs
 
 returns-2 : tie.Need-returns-2
-unfolding closest
+unfolding closestPoint
 returns-2 c = rw (c .before .before .before .if1 .left, ← c .unit-clamp .ensures)
 
 pub closest-point-spec : {M : Type 1} → statement M

@@ -44,8 +44,11 @@ returns-3 c =
 hypot-requires : tie.Need-hypot-requires
 hypot-requires c κs = search needs
 
+on-requires : tie.Need-on-requires
+on-requires c κs = search needs
+
 returns-4 : tie.Need-returns-4
-returns-4 c = rw (← c .before .hypot .ensures, c .if4 .taken)
+returns-4 c = rw (← c .before .before .hypot .ensures, c .before .if4 .taken, ← c .on .ensures)
 
 returns-5 : tie.Need-returns-5
 returns-5 c = rw (← c .before .hypot .ensures, c .if4 .left)
@@ -53,4 +56,4 @@ returns-5 c = rw (← c .before .hypot .ensures, c .if4 .left)
 pub nearer-between-spec : {M : Type 1} → statement M
 nearer-between-spec =
     tie.close
-    (tie.spec abs-requires returns abs-requires-2 returns-2 returns-3 hypot-requires returns-4 returns-5)
+    (tie.spec abs-requires returns abs-requires-2 returns-2 returns-3 hypot-requires on-requires returns-4 returns-5)

@@ -1,4 +1,4 @@
--- `store_listing::lines::put_answer`. By the answer: its three fields, or a word and the number.
+-- `store_listing::lines::put_answer`. By the answer: its four fields, or a word and the number.
 use native.Mathlib.Omega.{arith}
 use lib.ListN.{length-append}
 use Rattle.store_listing.specs.Text.{text}

@@ -3,7 +3,7 @@ use Prim.Native.Nat.{suc, _≤_, _-_}
 use native.Mathlib.Omega.{arith}
 use mathlib.Core.Path.{_≡_}
 use Rattle.arith.specs.F64.{𝟘, ∞}
-use Rattle.profile.specs.Vertices.{vertex, hit, upto}
+use Rattle.profile.specs.Vertices.{vertex, on, hit, upto}
 use Rattle.walk.specs.Walk.{sampleZ, sampled}
 use Rattle.walk.specs.Steps.{sampleAt}
 use Rattle.profile.proofs.Fold.{upto-more, upto-end}
@@ -13,7 +13,7 @@ use Rattle.walk.proofs.samples.sampled.Tie as tie
 
 abbrev Inv-loop : tie.InvT-loop
 Inv-loop s b n best₀ i₀ best i =
-    (i ≤ suc n) × (best ≡ upto (λ i best. sampleAt s b (sampleZ b n i) best) (hit ∞ (vertex (b .zc) 𝟘)) i)
+    (i ≤ suc n) × (best ≡ upto (λ i best. sampleAt s b (sampleZ b n i) best) (hit ∞ (on 0 (vertex (b .zc) 𝟘))) i)
 
 abbrev μ-loop : tie.MeasureT-loop
 μ-loop s b n best₀ i₀ best i = suc n - i
