@@ -1,5 +1,5 @@
--- 02's tilt: the distance that a verdict judges. A cylinder's axis may lean, so that its ends stand off the middle line; spheres and
--- boxes are judged by their distance as it is.
+-- 02's tilt: the distance that a verdict judges. A cylinder's axis may lean, so that its ends stand off the middle line; spheres
+-- and boxes are judged by their distance as it is.
 use lib.Ieee.{Float, binary64}
 use Rattle.arith.specs.F64.{_⊖_, _⊗_, ½}
 use Rattle.roots.specs.Roots.{hypot}
