@@ -1,7 +1,7 @@
--- Document 01's readings of the section S, its examples of what is turned down (numbers 1 to 11), and verdicts of bars that
--- lean: the definitions give every row of the table, by computation.
+-- Document 01's readings of the section S, and its examples of what is turned down (numbers 1 to 11): the definitions give every row of
+-- the table, by computation.
 use Prim.Native.Nat.{ℕ, zero, suc}
-use mathlib.Core.Bool.{Bool, true, false}
+use mathlib.Core.Bool.{false}
 use mathlib.Core.Path.{_≡_, refl}
 use mathlib.Core.List.{List, [], _∷_}
 use lib.IntN.{pos, negsuc}
@@ -31,8 +31,6 @@ use Rattle.walk.specs.Walk.{sampleVertex, sampled, walk, walkAll, bandDistance}
 use Rattle.settings.specs.Settings.{finest, settings}
 use Rattle.settings.specs.declared.shapes.Settings.{Settings}
 use Rattle.cylinders.specs.Cylinders.{cylinderDistance, cylinderAnswer}
-use Rattle.bodies.specs.declared.shapes.Body.the-variants as body·kinds
-use Rattle.verdicts.specs.Verdicts.{bodyVerdict}
 use Rattle.bands.specs.declared.shapes.Cylinder.{Cylinder}
 use Rattle.walk.specs.declared.shapes.CountedHit.{CountedHit}
 use Rattle.profile.specs.declared.shapes.Vertex.{Vertex}
@@ -47,8 +45,7 @@ mm n = ofInt binary64 (pos n)
 abbrev pub S : List Float
 S = sectionOf (mm 0 ∷ mm 10 ∷ mm 20 ∷ mm 10 ∷ [])
 
--- A row: what a builder keeps; what a query of S answers; the verdict of a cylinder beside S and a clearance; a distance that
--- every point has; what a builder answers.
+-- A row: what a builder keeps; what a query of S answers; a distance that every point has; what a builder answers.
 pub data Row : Type 0 where
   keeps : List Float → List Float → Row
   point : Vec3 → Reply CollisionHit → Row
@@ -56,7 +53,6 @@ pub data Row : Type 0 where
   box : Aabb → Reply CollisionHit → Row
   cylinder : Cylinder → Reply CountedHit → Row
   cylinderAt : Cylinder → Settings → Reply CountedHit → Row
-  verdict : Cylinder → Float → Reply Bool → Row
   everywhere : List Float → Float → Row
   section : List Float → List Float → Reply ℕ → Row
   polygon : List Float → List Float → Reply ℕ → Row
@@ -68,7 +64,6 @@ Holds (sphere b a) = sphereAnswer S b ≡ a
 Holds (box x a) = boxAnswer S x ≡ a
 Holds (cylinder c a) = cylinderAnswer S c finest ≡ a
 Holds (cylinderAt c t a) = cylinderAnswer S c t ≡ a
-Holds (verdict c clearance a) = bodyVerdict S (body·kinds.Cylinder c) clearance ≡ a
 Holds (everywhere given d) = (p : Vertex) → pointDistance (sectionOf given) p ≡ hit d (vertexAt (sectionOf given) 0)
 Holds (section given space a) = sectionAnswer given space ≡ a
 Holds (polygon given space a) = polygonAnswer given space ≡ a
@@ -97,21 +92,6 @@ thin = fin false 1 (negsuc 29)
 abbrev pub nearly10 : Float
 nearly10 = fin false 10737418239 (negsuc 29)
 
--- bars of 1,024 mm whose ends stand 5/64, 1/8 and 1/8 apart across their axis
-abbrev pub sixteenth : Float
-sixteenth = fin false 1 (negsuc 3)
-
-abbrev pub leaning : Cylinder
-leaning =
-    bar (vec (fin false 1917 (negsuc 6)) (fin true 1 (negsuc 4)) (mm 0))
-    (vec (fin false 1923 (negsuc 6)) (fin false 1 (negsuc 4)) (mm 1024)) (mm 2)
-
-abbrev pub leaningX : Cylinder
-leaningX = bar (vec (mm 12) (neg sixteenth) (mm 10)) (vec (mm 1036) sixteenth (mm 10)) (mm 0)
-
-abbrev pub leaningY : Cylinder
-leaningY = bar (vec (neg sixteenth) (mm 12) (mm 10)) (vec sixteenth (mm 1036) (mm 10)) (mm 0)
-
 -- n zeros
 abbrev pub room : ℕ → List Float
 room zero = []
@@ -136,13 +116,6 @@ readings =
     -- along Y, as the exchanged ones along X
     ∷ cylinder (bar (at 0 12 10) (at 0 30 10) (mm 0)) (walks (mm 2) (mm 10) (mm 10) 1 0)
     ∷ cylinder (bar (at 0 12 10) (at 0 30 10) thin) (walks (mm 2) nearly10 (mm 10) 1 1)
-    -- 02's tilt: distances 3, 2 and 2, judged at 3 - 5/128, 2 - 1/16 and 2 - 1/16
-    ∷ verdict leaning (mm 3) (value true)
-    ∷ verdict leaning (fin false 379 (negsuc 6)) (value false)
-    ∷ verdict leaningX (mm 2) (value true)
-    ∷ verdict leaningX (fin false 31 (negsuc 3)) (value false)
-    ∷ verdict leaningY (mm 2) (value true)
-    ∷ verdict leaningY (fin false 31 (negsuc 3)) (value false)
     -- numbers 1 to 11
     ∷ section (mm 0 ∷ mm 10 ∷ mm 20 ∷ []) (room 8) (turned-down 1)
     ∷ section (mm 0 ∷ mm 10 ∷ []) (room 8) (turned-down 2)
@@ -171,10 +144,9 @@ unfolding add sub mul div neg lt le ofInt ofBits sqrt hypot isFinite
     boxHolds resultOf boxDistance samePoint keep sectionPoints sectionOf polygonPoints polygonOf
     refusal anyOf pointAnswer sphereAnswer boxAnswer sectionAnswer polygonAnswer
     axisDir axis axialBox bandOf halfWidth spanAt widest narrowest pieceBox variation sampleVertex sampled walk walkAll bandDistance
-    cylinderDistance cylinderAnswer bodyVerdict
+    cylinderDistance cylinderAnswer
 all-readings =
     let all-points : Holds (everywhere (mm 0 ∷ mm 0 ∷ mm 20 ∷ mm 0 ∷ []) ∞) = λ p. refl in
     refl and refl and refl and refl and refl and refl and refl and refl and refl and refl and refl and refl
     and refl and all-points and refl and refl and refl and refl and refl and refl and refl and refl and refl
-    and refl and refl and refl and refl and refl and refl and refl and refl and refl and refl and refl and refl
-    and refl and refl and end
+    and refl and refl and refl and refl and refl and refl and refl and refl and end
