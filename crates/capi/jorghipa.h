@@ -86,8 +86,12 @@ uint32_t jorghipa_cylinder(const double *section, size_t section_count, double a
                            double *distance, double *witness_z, double *witness_radius, uint32_t *edge,
                            uint32_t *boxes, uint32_t *waiting, uint32_t *cut);
 
-/* *collision is 1 exactly when distance + 1e-9 < clearance, else 0. Numbers of the query without 18; 4 and 5 for the
- * clearance. A cylinder is measured at the finest settings. */
+/* *collision is 1 exactly when the judged distance + 1e-9 < clearance, else 0. Numbers of the query without 18; 4 and 5
+ * for the clearance. A cylinder is measured at the finest settings. What is judged is the distance itself; of a cylinder,
+ * whose axis may lean a little, the distance less half of
+ *    hypot(ax - bx, ay - by)   along the spindle
+ *    hypot(ay - by, az - bz)   across it along x
+ *    hypot(ax - bx, az - bz)   across it along y */
 uint32_t jorghipa_verdict_sphere(const double *section, size_t section_count, double x, double y, double z,
                                  double radius, double clearance, uint32_t *collision);
 

@@ -26,7 +26,8 @@ pub fn verdict_box(section: &[f64], bounds: Aabb, clearance: f64) -> Result<bool
     })
 }
 
-/// Whether a cylinder comes closer than the clearance. Refusals 1 to 6, 9 and 11.
+/// Whether a cylinder comes closer than the clearance, judged by its distance less half of how far its ends stand apart
+/// across its axis. Refusals 1 to 6, 9 and 11.
 pub fn verdict_cylinder(section: &[f64], cylinder: Cylinder, clearance: f64) -> Result<bool, Refusal> {
     let Cylinder { a, b, radius } = cylinder;
     let (list, count) = (section.as_ptr(), section.len());

@@ -1,2 +1,3 @@
--- Document 01's readings: the table and its theorem.
+-- Document 01's readings: the table and its theorem. Verdicts of bars that lean.
 pub mod Readings
+pub mod Leaning

@@ -1,2 +1,3 @@
--- 01's verdict.
+-- 01's verdict, and 02's tilt in it.
+pub mod Tilt
 pub mod Verdicts

@@ -1,5 +1,6 @@
 // The verdicts on a body, a section and a clearance.
 mod shapes;
+mod tilt;
 mod verdicts;
 
 pub use shapes::Verdict;
@@ -8,3 +9,7 @@ pub use verdicts::verdict_box;
 pub use verdicts::verdict_convex;
 pub use verdicts::verdict_cylinder;
 pub use verdicts::verdict_sphere;
+
+// For the crates above: the judged distance of a body whose distance is known, and of a cylinder whose axis is known too.
+pub use tilt::judged_distance;
+pub use tilt::less_tilt;

@@ -1,9 +1,10 @@
-// The verdicts: collision exactly when distance + 1e-9 < clearance.
+// The verdicts: collision exactly when the judged distance + 1e-9 < clearance.
 ghost use mathlib.Core.Path.{_≡_};
 ghost use Rattle.profile.specs.Replies.{value};
 ghost use Rattle.bodies.specs.declared.shapes.Body.the-variants as body·kinds;
 ghost use Rattle.verdicts.specs.Verdicts.{told, collides, bodyVerdict, convexVerdict};
 use super::shapes::Verdict;
+use super::tilt::less_tilt;
 use bands::Cylinder;
 use bands::axis_of;
 use bodies::Body;
@@ -62,12 +63,8 @@ pub fn verdict_cylinder(section: &[f64], cylinder: Cylinder, clearance: f64) -> 
     if number != 0 {
         return Verdict::Refused(number);
     }
-    judged(
-        cylinder_distance(section, cylinder, axis, finest())
-            .hit
-            .distance,
-        clearance,
-    )
+    let counted = cylinder_distance(section, cylinder, axis, finest());
+    judged(less_tilt(axis, cylinder, counted.hit.distance), clearance)
 }
 
 // The verdict on a body, whatever its kind.

@@ -77,6 +77,7 @@ fn readings() -> Vec<Query> {
     all.push(Query::new(Kind::VerdictSphere, std::slice::from_ref(&axis), &[1.0, 2.0, 3.0, 0.5, 1_048_576.0]));
     let bar = |clearance| query(Kind::VerdictCylinder, &[12.0, 0.0, 10.0, 30.0, 0.0, 10.0, 2.0, clearance]);
     all.extend([2.0, 2.0 + 2e-9].map(bar));
+    all.extend(leaning().map(|numbers| query(Kind::VerdictCylinder, &numbers)));
     all.push(query(Kind::VerdictCylinder, &[0.0, 0.0, 0.0, 1.0, 0.0, 1.0, -1.0, f64::NAN]));
     all.extend(settings().map(|(body, set)| query(Kind::SetCylinder, &[body.as_slice(), &numbers_of(set)].concat())));
     all.extend(low::queries());
@@ -143,6 +144,25 @@ fn settings() -> impl Iterator<Item = ([f64; 7], Settings)> {
     let coarse = Settings { tolerance: 0.01, most: 64, intervals: 4 };
     let all: Vec<Settings> = tolerances.chain(mosts).chain(intervals).chain([FINEST, coarse]).collect();
     bodies.into_iter().flat_map(move |body| all.clone().into_iter().map(move |set| (body, set)))
+}
+
+/// Bars of 1,024 mm beside S that lean, along the spindle, along X and along Y, with the clearances that tell half of the
+/// length from all and from none of it.
+fn leaning() -> impl Iterator<Item = [f64; 8]> {
+    let (share, tick) = (1.0 / 128.0, 2f64.powi(-19));
+    let bars = [
+        ([15.0 - 3.0 * share, -4.0 * share, 0.0, 15.0 + 3.0 * share, 4.0 * share, 1024.0, 2.0], 3.0, 10.0 * share),
+        ([12.0, -0.0625, 10.0, 1036.0, 0.0625, 10.0, 0.0], 2.0, 0.125),
+        ([12.0, 2.0 * tick, 10.0, 1036.0, -2.0 * tick, 10.0 + 3.0 * tick, 0.0], 2.0, 5.0 * tick),
+        ([0.0625, 12.0, 10.0, -0.0625, 1036.0, 10.0, 0.0], 2.0, 0.125),
+        ([2.0 * tick, 12.0, 10.0, -2.0 * tick, 1036.0, 10.0 + 3.0 * tick, 0.0], 2.0, 5.0 * tick),
+    ];
+    bars.into_iter().flat_map(|([ax, ay, az, bx, by, bz, radius], distance, length)| {
+        [0.0, 0.25, 0.5, 0.75, 1.0].into_iter().flat_map(move |share| {
+            let judged = distance - share * length;
+            [judged, judged + 2e-9].map(|clearance| [ax, ay, az, bx, by, bz, radius, clearance])
+        })
+    })
 }
 
 /// Cylinders beside S: document 01's readings and examples of walks, cut and uncut; then lengths of nothing, or whose

@@ -1,6 +1,7 @@
 //! The expected answer: numbers from the table, all else from the published Rust with the exact hypot. The edge of a hit comes
 //! from document 01's steps, whose distance and witness have to be the Rust's; a cylinder from the second implementation of the
-//! walk, which at the finest settings has to agree with the Rust.
+//! walk, which at the finest settings has to agree with the Rust. A cylinder's verdict is the Rust's distance with
+//! request (v)'s rule beside it.
 
 use crate::answer::Answer;
 use crate::query::{FILL, Kind, Query};
@@ -126,7 +127,22 @@ pub fn rust_cylinder(query: &Query) -> Option<(probe::Hit, traced::trace::Trace)
 
 fn verdict(query: &Query, distance: f64) -> Option<Answer> {
     let clearance = *query.numbers.last()?;
-    Some(Answer::Verdict(distance + revolve_exact::TOUCH_SLACK < clearance))
+    Some(Answer::Verdict(judged(query, distance) + revolve_exact::TOUCH_SLACK < clearance))
+}
+
+/// The distance that a verdict judges. Request (v): a cylinder's less half of one length, by its direction.
+pub fn judged(query: &Query, distance: f64) -> f64 {
+    if query.kind != Kind::VerdictCylinder {
+        return distance;
+    }
+    let body @ [ax, ay, az, bx, by, bz, _] = query.array();
+    let length = match table::axis(body) {
+        Some(table::Axis::Axial) => exact_hypot::hypot(ax - bx, ay - by),
+        Some(table::Axis::AlongX) => exact_hypot::hypot(ay - by, az - bz),
+        Some(table::Axis::AlongY) => exact_hypot::hypot(ax - bx, az - bz),
+        None => panic!("the table accepts a cylinder of no direction: {}", query.line()),
+    };
+    distance - length * 0.5
 }
 
 /// A builder's lent space before the call.

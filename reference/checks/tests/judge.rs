@@ -61,6 +61,22 @@ fn cylinders() {
     assert!(matches!(answer([0.0, 0.0, 0.0, 1.0, 0.0, 1.0, 1.0]), Answer::Refused(11)));
 }
 
+/// Request (v)'s rule by hand: bars of 1,024 mm whose ends stand 5/64, 1/8 and 1/8 apart across their axis.
+#[test]
+fn leaning_bars() {
+    let collides = |numbers: [f64; 8]| match expected(&Query::new(Kind::VerdictCylinder, &[S.to_vec()], &numbers)) {
+        Answer::Verdict(collision) => collision,
+        other => panic!("{}", other.line()),
+    };
+    let (less, more, side) = (15.0 - 3.0 / 128.0, 15.0 + 3.0 / 128.0, 1.0 / 32.0);
+    let along = |clearance| collides([less, -side, 0.0, more, side, 1024.0, 2.0, clearance]);
+    assert_eq!([3.0, 3.0 - 5.0 / 128.0].map(along), [true, false]);
+    let along_x = |clearance| collides([12.0, -0.0625, 10.0, 1036.0, 0.0625, 10.0, 0.0, clearance]);
+    assert_eq!([2.0, 1.9375].map(along_x), [true, false]);
+    let along_y = |clearance| collides([-0.0625, 12.0, 10.0, 0.0625, 1036.0, 10.0, 0.0, clearance]);
+    assert_eq!([2.0, 1.9375].map(along_y), [true, false]);
+}
+
 /// The probe's distances are those of the public functions; the traced copy's are those of the exact one.
 #[test]
 fn probe_and_public_functions() {

@@ -1,25 +1,27 @@
--- What has few enough digits is its own rounding: x itself, x + c and x - c against x, twice x; and two values of one sign and size
--- are one.
---
-use Prim.Native.Nat.{_*_, _+_, _-_, _/_, _<_, _^_, min, suc, ℕ, _≤_}
+-- What has few enough digits is its own rounding: x itself, x + c and x - c against x, twice x, x - 0; and two values of one sign
+-- and size are one.
+use Prim.Native.Nat.{_*_, _+_, _-_, _/_, _<_, _^_, min, suc, ℕ, _≤_, zero-le}
 use mathlib.Core.Bool.{Bool, cond, false, not, true}
 use mathlib.Core.Path.{ap, refl, subst, sym, _∙_, _≡_}
-use native.Mathlib.Nat.{le-of-eq, le-of-lt, le-trans, min-eq-right, mul-add, mul-div-cancel, mul-one, not-le-of-lt}
-use native.Mathlib.Nat.{two-pow-succ}
+use native.Mathlib.Nat.{add-zero, le-of-eq, le-of-lt, le-trans, min-eq-right, mul-add, mul-div-cancel, mul-one, mul-pos}
+use native.Mathlib.Nat.{not-le-of-lt, two-pow-succ, zero-mul}
+use borrow.Author.Tests.{le-ltb}
 use native.Mathlib.Omega.{arith}
 use lib.Dec.{T}
-use lib.Ieee.{add, down, fin, fits, Float, Format, hid, inf, isNan, low, nan, prec, size, sub, toBits, top, le}
+use lib.Ieee.{add, down, fin, fits, Float, Format, hid, inf, isNan, le, low, nan, neg, prec, round, size, sub, sum, toBits, top}
+use lib.Ieee.{up}
 use lib.Ieee.Bits.{ofBits-toBits}
-use lib.Ieee.Exact.{HasValue}
+use lib.Ieee.Exact.{HasValue, round-exact}
 use lib.Ieee.Fits.{and-l, and-r, down-pos}
-use lib.IntN.{ℤ}
+use lib.IntN.{ℤ, pos}
 use lib.Pow.{pow-pos}
 use Rattle.roots.proofs.Rounding.Fraction.{rounded, rounded-fix}
-use Rattle.roots.proofs.Rounding.Key.{finiteNumber, key, key-is, magnitude, magnitude-le, mid, negative}
-use Rattle.roots.proofs.Rounding.Key.{number, number-of, Representable, representable, representable-of, side, unit}
+use Rattle.roots.proofs.Rounding.Key.{finite-of, finiteNumber, key, key-is, magnitude, magnitude-le, mid, negative}
+use Rattle.roots.proofs.Rounding.Key.{negative-of-value, number, number-of, plusZero, plusZero-finiteNumber, plusZero-key}
+use Rattle.roots.proofs.Rounding.Key.{Representable, representable, representable-of, side, unit}
 use Rattle.roots.proofs.Rounding.RoundKey.{Difference, roundKey, roundKey-mono, roundKey-side}
-use Rattle.roots.proofs.Rounding.Sum.{add-key, add-number, sub-key}
-use Rattle.roots.proofs.Rounding.KeyOrder.{key→le}
+use Rattle.roots.proofs.Rounding.Sum.{add-key, add-number, sub-key, sub-number}
+use Rattle.roots.proofs.Rounding.KeyOrder.{cross, key→le}
 use Rattle.arith.proofs.Laws.OrderHeld.{number-held}
 
 -- ---- fixed points: (a - b) / c is the signed n = q * 2 ^ j
@@ -142,3 +144,36 @@ pub key-unique : (f : Format) (x y : Float) → T (number f x) → T (number f y
 key-unique f x y p q s e = one-of-size f x y p q s
     (same-size (mid f) (magnitude f x) (magnitude f y) (negative x) (magnitude-le f x p) (magnitude-le f y q)
     (sym (key-is f x) ∙ e ∙ key-is f y ∙ ap (λ (t : Bool). side (mid f) t (magnitude f y)) (sym s)))
+
+-- ---- x - 0 is x, a zero keeping its sign
+module _ (f : Format) (m : ℕ) (e : ℤ) where
+  -- x over the denominator of a difference with zero
+  abbrev over : ℕ
+  over = m * up e * 1
+
+  less-nothing : (s : Bool) → sum f s over true (0 * 1 * down e) (down e * 1) ≡ round f s over (down e * 1)
+  unfolding sum
+  less-nothing true = rw (zero-mul (down e), add-zero over)
+  less-nothing false = let nothing : over - 0 ≡ over = omega arith in rw (zero-mul (down e), le-ltb over 0 zero-le, nothing)
+
+  round-sign : (s : Bool) → T (finiteNumber f (fin s m e)) → negative (round f s over (down e * 1)) ≡ s
+  round-sign s p =
+      let h = representable-of f (fin s m e) p in
+      unfold unit mid in
+      negative-of-value (round f s over (down e * 1)) s over (down e * 1)
+      (round-exact f s over (down e * 1) (h .q) (h .j) (mul-pos (down-pos e) (pow-pos 0)) (h .short)
+      (subst (λ (z : ℕ). z < mid f) (h .whole) (h .small))
+      (subst (λ (z : ℕ). over * unit f ≡ z * (down e * 1)) (h .whole)
+      (cross f m e (pos 0) (magnitude f (fin s m e)) (h .value .1))))
+
+sub-zero-sign : (f : Format) (x : Float) → T (finiteNumber f x) → negative (sub f x plusZero) ≡ negative x
+unfolding sub add neg plusZero
+sub-zero-sign f nan p = absurd (finite-of f nan p)
+sub-zero-sign f (inf s) p = absurd (finite-of f (inf s) p)
+sub-zero-sign f (fin s m e) p = ap negative (less-nothing f m e s) ∙ round-sign f m e s p
+
+pub sub-zero : (f : Format) (x : Float) → T (finiteNumber f x) → sub f x plusZero ≡ x
+sub-zero f x p =
+    let z = plusZero-finiteNumber f in
+    key-unique f (sub f x plusZero) x (sub-number f x plusZero p z) (number-of f x p) (sub-zero-sign f x p)
+    (sub-key f x plusZero p z ∙ ap (λ (k : ℕ). roundKey f (key f x) k 1) (plusZero-key f) ∙ roundKey-self f x p)

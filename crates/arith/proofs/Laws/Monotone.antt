@@ -66,7 +66,7 @@ times-key f x c p q h =
     )
 
 -- x ≤ x' over a common factor
-times-key-mono : (f : Format) (x x' c : Float) → T (finiteNumber f x) → T (finiteNumber f x') → T (finiteNumber f c)
+pub times-key-mono : (f : Format) (x x' c : Float) → T (finiteNumber f x) → T (finiteNumber f x') → T (finiteNumber f c)
     → mid f ≤ key f c → key f x ≤ key f x' → key f (mul f x c) ≤ key f (mul f x' c)
 times-key-mono f x x' c p p' q h l =
     let C = positivePart f c in

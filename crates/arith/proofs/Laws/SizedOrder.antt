@@ -1,22 +1,24 @@
 -- The order of f64 of known size, as the order of their keys: tests, the larger and the smaller of two, x - y ≤ x ≤ x + y for y ≥ 0,
--- and hypotenuses, which grow with the magnitude of each leg.
+-- half of a number and x - 0, and hypotenuses, which grow with the magnitude of each leg.
 use Prim.Native.Nat.{ℕ, _+_, _*_, _≤_, _<_, max as maxℕ, min as minℕ}
 use mathlib.Core.Bool.{Bool, true, false, not}
-use mathlib.Core.Path.{_≡_, refl, sym}
+use mathlib.Core.Path.{_≡_, refl, ap, sym, _∙_}
 use native.Mathlib.Nat.{add-le-add, le-of-eq, le-trans, lt-of-le-of-lt, mul-le-mul}
 use native.Mathlib.Omega.{arith}
-use lib.Dec.{T, nltb→le}
+use lib.Dec.{T, lit≤, nltb→le}
 use lib.IntN.{ℤ}
-use lib.Ieee.{Float, binary64, down, fin, lt, ofBits, up}
+use lib.Ieee.{Float, binary64, down, fin, fits, lt, mul, ofBits, up}
 use lib.Ieee.Scale.{finite}
-use Rattle.arith.specs.F64.{_⊕_, _⊖_, _≺_, _≼_, 𝟘}
+use Rattle.arith.specs.F64.{_⊕_, _⊖_, _⊗_, _≺_, _≼_, 𝟘, ½}
 use Rattle.arith.specs.Num.{max, min}
 use Rattle.roots.specs.Roots.{hypot}
-use Rattle.roots.proofs.Rounding.Key.{magnitude}
+use Rattle.roots.proofs.Rounding.Key.{finiteNumber, key, magnitude, mid, plusZero, unit}
 use Rattle.roots.proofs.Rounding.KeyOrder.{key→le, lt→key, nlt→key}
 use Rattle.arith.proofs.Laws.BoundedValue.{BoundedValue, bounded-value}
+use Rattle.arith.proofs.Laws.Exact.{sub-zero}
 use Rattle.arith.proofs.Laws.Hypot.{hypot-root}
 use Rattle.arith.proofs.Laws.HypotKey.{root-not-negative}
+use Rattle.arith.proofs.Laws.Monotone.{times-key-mono}
 use Rattle.arith.proofs.Laws.Order.{max-key, min-key, nle→key}
 use Rattle.arith.proofs.Laws.RootKey.{root-mono}
 use Rattle.arith.proofs.Laws.Shift.{add-value-ge, less-part, sub-value-le}
@@ -67,6 +69,29 @@ module _ {i j : ℕ} {x y : Float} (X : Finite i x) (Y : Given j y) (h : T (not 
     where
       go : {y : Float} → BoundedValue binary64 (j + 1074) y → T (not (y ≺ 𝟘)) → K (x ⊖ y) ≤ K x
       go (bounded-value {s = t} {m = n} {e = d} v) h = sub-value-le binary64 x t n d (X .bounded .sure) (not-less t n d h)
+
+-- ---- half of what is not negative is not, half of 0 is 0, and x - 0 is x
+half-sure : T (finiteNumber binary64 ½)
+unfolding ofBits fits
+half-sure = tt
+
+half-positive : M ≤ K ½
+unfolding mid key magnitude unit ofBits
+half-positive = lit≤ tt
+
+pub half-of-zero : 𝟘 ⊗ ½ ≡ 𝟘
+unfolding ofBits mul
+half-of-zero = refl
+
+pub half-not-negative : {n : ℕ} {x : Float} → Finite n x → M ≤ K x → M ≤ K (x ⊗ ½)
+half-not-negative {x = x} X h =
+    le-trans (le-of-eq (sym (ap K half-of-zero ∙ zero-key)))
+    (times-key-mono binary64 𝟘 x ½ (zero-finite 0 .bounded .sure) (X .bounded .sure) half-sure half-positive
+    (le-trans (le-of-eq zero-key) h))
+
+pub sub-zero-finite : {n : ℕ} {x : Float} → Finite n x → x ⊖ 𝟘 ≡ x
+unfolding ofBits plusZero
+sub-zero-finite {x = x} X = sub-zero binary64 x (X .bounded .sure)
 
 -- ---- hypotenuses
 given-finite : {n : ℕ} {x : Float} → Given n x → T (finite x)

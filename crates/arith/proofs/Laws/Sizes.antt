@@ -6,7 +6,7 @@ use mathlib.Core.Path.{_≡_, refl}
 use native.Mathlib.Omega.{arith}
 use lib.Dec.{T, leb, leb→le, le→leb, lit≤, ltb, ltb→lt}
 use lib.Ieee.{Float, binary64, fits, neg, ofBits}
-use Rattle.arith.specs.F64.{_⊕_, _⊖_, _⊗_, _≺_, _≼_, 𝟘, 𝟙, ½, e-8, e-12, e-18, e-24}
+use Rattle.arith.specs.F64.{_⊕_, _⊖_, _⊗_, _≺_, _≼_, 𝟘, 𝟙, ½, e-8, e-9, e-12, e-18, e-24}
 use Rattle.arith.specs.Num.{abs, isFinite, max, min}
 use Rattle.roots.specs.Roots.{hypot}
 use Rattle.roots.proofs.Rounding.Key.{finiteNumber, key, magnitude, mid, number, number-of, unit}
@@ -128,6 +128,10 @@ one-finite = constant 𝟙 tt tt tt
 pub e-8-finite : Finite 0 e-8
 unfolding mid key magnitude unit ofBits fits
 e-8-finite = constant e-8 tt tt tt
+
+pub e-9-finite : Finite 0 e-9
+unfolding mid key magnitude unit ofBits fits
+e-9-finite = constant e-9 tt tt tt
 
 pub e-12-finite : Finite 0 e-12
 unfolding mid key magnitude unit ofBits fits

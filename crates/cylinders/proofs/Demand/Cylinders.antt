@@ -53,7 +53,7 @@ module _ {s : List Float} (S : VerticesAtMost 23 s) where
       (λ h. walked-atMost (walkAll-atMost S B (t .tolerance) (t .most) (taken .some-box)
       (record { some = taken .some-interval; few = le-trans (taken .samples) (lit≤ tt) })))
 
-  cylinder-atMost : {c : Cylinder} {t : Settings} → SettingsTaken t → CylinderInLimit c
+  pub cylinder-atMost : {c : Cylinder} {t : Settings} → SettingsTaken t → CylinderInLimit c
       → HitAtMost 28 (count s) (cylinderDistance s c t .hit)
   unfolding cylinderDistance
   cylinder-atMost {c} {t} taken C = by (axis c) refl

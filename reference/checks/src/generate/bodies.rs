@@ -161,8 +161,8 @@ pub fn convex(random: &mut Random, style: Style, section: &[Vertex]) -> Vec<Vert
     sections::rotated(random, body)
 }
 
-/// Along or across the spindle, along X or Y, a little tilted, or of no length. One in 200 is made to be walked, which takes
-/// long.
+/// Along or across the spindle, along X or Y, a little tilted in one direction or in both, or of no length. One in 200 is made
+/// to be walked, which takes long.
 pub fn cylinder(random: &mut Random, style: Style, section: &[Vertex]) -> Vec<f64> {
     let (z, r) = target(random, style, section);
     let (x, y) = spread(random, r);
@@ -172,6 +172,8 @@ pub fn cylinder(random: &mut Random, style: Style, section: &[Vertex]) -> Vec<f6
         0 => ([x, y, z, x + length.max(1e-3), y, z], size(random)),
         1..=40 => ([x, y, z, x + length, y, z + length * tilt], random.pick(&[0.0, 5e-324, 1e-16, 1e-15])),
         41..=60 => ([x, y, z, x + length, y + length * tilt, z], random.pick(&[0.0, 1e-15])),
+        61..=80 => (leaning(random, [x, y, z], false), random.pick(&[0.0, 1e-15])),
+        81..=110 => (leaning(random, [x, y, z], true), size(random)),
         _ => ([x, y, z, x + length * tilt, y, z + length], size(random)),
     };
     let mut ends = ends.map(limited);
@@ -183,6 +185,19 @@ pub fn cylinder(random: &mut Random, style: Style, section: &[Vertex]) -> Vec<f6
         ends.swap(3, 4);
     }
     ends.into_iter().chain([radius]).collect()
+}
+
+/// The ends of a cylinder from here, along the spindle or along X, that leans in both other directions, up to what the axis
+/// test takes and a little more.
+fn leaning(random: &mut Random, [x, y, z]: [f64; 3], along: bool) -> [f64; 6] {
+    let length = random.pick(&[1.0, 30.0, 500.0, 1000.0]);
+    let lean = random.pick(&[1e-6, 1e-4, 1.4e-4, 1.4142e-4]) * length;
+    if along {
+        let angle = random.between(0.0, 6.3);
+        return [x, y, z, x + lean * angle.cos(), y + lean * angle.sin(), z + length];
+    }
+    let less = random.pick(&[1e-9, 5e-9, 1e-8]) * length;
+    [x, y, z, x + length, y + random.sign(lean), z + random.sign(less)]
 }
 
 /// A cylinder, one in eight of them made to be walked, then its settings: mostly coarse, and the edges of every range.

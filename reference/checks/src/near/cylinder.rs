@@ -86,6 +86,26 @@ fn along_y_y(random: &mut Random, kind: Kind) -> Near {
     Near { query: cylinder(random, kind, [0.0; 3], delta, 0.0), number: direction(delta, 1), threshold: 1.0 - 1e-8 }
 }
 
+/// A cylinder that leans in both directions across its axis, along the spindle, along X or along Y, up to what the axis test
+/// takes; a clearance of 0 behind it.
+pub fn leaning(random: &mut Random, kind: Kind) -> Query {
+    let length = random.pick(&[1.0, 30.0, 64.0, 1000.0, 0.3]);
+    let lean = random.pick(&[1.41e-4, 1e-4, 3e-5, 1e-8, 1e-12]) * length;
+    let angle = random.between(0.0, 6.3);
+    let (delta, radius) = match random.below(3) {
+        0 => ([lean * angle.cos(), lean * angle.sin(), length], random.pick(&[0.0, 0.5, 4.0])),
+        direction => {
+            let z = random.pick(&[0.0, 1e-9, 5e-9, 9.9e-9]) * length;
+            let across = [length, random.sign(lean), random.sign(z)];
+            (if direction == 1 { across } else { [across[1], across[0], across[2]] }, random.pick(&[0.0, 1e-15]))
+        }
+    };
+    let at = [random.between(-60.0, 60.0), random.pick(&[0.0, 0.5, 12.0]), random.between(-60.0, 60.0)];
+    let mut query = cylinder(random, Kind::Cylinder, at, delta, radius);
+    query.numbers.push(0.0);
+    Query::new(kind, &query.lists, &query.numbers)
+}
+
 fn line(random: &mut Random, kind: Kind) -> Near {
     let number = random.near(1e-15);
     let at = [random.pick(&[0.5, 60.0, 1.0]), 0.0, random.pick(&[0.0, -2.0, 1.0])];

@@ -51,9 +51,8 @@ pub fn thresholds(kind: Kind) -> Vec<Threshold> {
         Kind::Section => builder::SECTION.to_vec(),
         Kind::Polygon => builder::POLYGON.to_vec(),
         Kind::Cylinder => cylinder::CYLINDER.to_vec(),
-        Kind::VerdictSphere | Kind::VerdictBox | Kind::VerdictCylinder | Kind::VerdictConvex => {
-            vec![("clearance", clearance)]
-        }
+        Kind::VerdictSphere | Kind::VerdictBox | Kind::VerdictConvex => vec![("clearance", clearance)],
+        Kind::VerdictCylinder => vec![("clearance", clearance), ("clearance, leaning", leaning)],
         Kind::SetCylinder => settings::SETTINGS.to_vec(),
     };
     let all: [(&'static str, Make); 2] = [("limit 1,048,576", limit), ("section's radius -1e-9", below_axis)];
@@ -82,11 +81,20 @@ fn below_axis(random: &mut Random, kind: Kind) -> Near {
     Near { query, number, threshold: -1e-9 }
 }
 
-/// A clearance beside the distance.
+/// A clearance beside the judged distance.
 fn clearance(random: &mut Random, kind: Kind) -> Near {
+    beside(random, kind, generate::drawn)
+}
+
+/// The same of a cylinder that leans, in every direction.
+fn leaning(random: &mut Random, kind: Kind) -> Near {
+    beside(random, kind, cylinder::leaning)
+}
+
+fn beside(random: &mut Random, kind: Kind, draw: fn(&mut Random, Kind) -> Query) -> Near {
     let judged = kind.judged().expect("only a verdict has a clearance");
     loop {
-        let mut query = generate::drawn(random, kind);
+        let mut query = draw(random, kind);
         let last = query.numbers.len() - 1;
         let body = Query::new(judged, &query.lists, &query.numbers[..last]);
         let distance = match judge::expected(&body) {
@@ -94,7 +102,7 @@ fn clearance(random: &mut Random, kind: Kind) -> Near {
             Answer::Refused(_) | Answer::Spoilt(_) | Answer::Split(_) => continue,
             Answer::Root(_) | Answer::Built(..) | Answer::Verdict(_) => continue,
         };
-        let threshold = distance + 1e-9;
+        let threshold = judge::judged(&query, distance) + 1e-9;
         query.numbers[last] = random.near(threshold);
         return Near { number: query.numbers[last], threshold, query };
     }

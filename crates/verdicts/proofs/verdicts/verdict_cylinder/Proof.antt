@@ -30,6 +30,9 @@ cylinder-distance-requires c κs =
     (finest-measurable (c .before .before .before .before .axis-of .ensures) (c .before .before .cylinder-refusal .ensures)
     (c .before .if1 .left))
 
+less-tilt-requires : tie.Need-less-tilt-requires
+less-tilt-requires c κs = search needs
+
 judged-requires : tie.Need-judged-requires
 judged-requires c κs = search needs
 
@@ -37,10 +40,12 @@ returns-2 : tie.Need-returns-2
 unfolding bodyVerdict
 returns-2 c =
     rw (
-      ← c .before .before .before .before .cylinder-refusal .ensures .number [] tt no-settings,
-      c .before .before .before .if1 .left,
-      ← c .before .before .finest .ensures,
-      ← c .before .cylinder-distance .ensures,
+      ← c .before .before .before .before .before .cylinder-refusal .ensures .number [] tt no-settings,
+      c .before .before .before .before .if1 .left,
+      ← c .before .before .before .finest .ensures,
+      ← c .before .before .cylinder-distance .ensures,
+      ← c .before .before .before .before .before .before .before .axis-of .ensures,
+      ← c .before .less-tilt .ensures,
     )
     (c .judged .ensures)
 
@@ -54,5 +59,6 @@ verdict-cylinder-spec =
     returns
     finest-requires
     cylinder-distance-requires
+    less-tilt-requires
     judged-requires
     returns-2)

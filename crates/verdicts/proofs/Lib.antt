@@ -1,0 +1,2 @@
+-- What the tilt does to a verdict.
+pub mod Judged
