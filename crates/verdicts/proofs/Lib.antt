@@ -1,2 +1,3 @@
--- What the tilt does to a verdict.
+-- What the tilt does to a distance, and to a verdict.
+pub mod Less
 pub mod Judged
