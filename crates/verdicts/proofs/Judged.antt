@@ -9,7 +9,7 @@ use lib.Ieee.{Float}
 use Rattle.arith.specs.F64.{_≼_, 𝟘}
 use Rattle.arith.proofs.Laws.OrderHeld.{T→true}
 use Rattle.arith.proofs.Laws.Sizes.{Finite}
-use Rattle.profile.specs.Refusals.{Test, refusal}
+use Rattle.profile.specs.Refusals.{Test, refusal, axisTests}
 use Rattle.profile.specs.Replies.{Reply, value, turned-down, reply}
 use Rattle.profile.specs.Steps.{numbered}
 use Rattle.settings.specs.Settings.{finest}
@@ -31,7 +31,7 @@ use Rattle.verdicts.proofs.Less.{less-collides, less-not-above, less-no
 
 -- ---- of every accepted cylinder, whatever else is given, and at all settings that are taken
 module _ (s : List Float) (c : Cylinder) (extra : List Float) (settings : List Test)
-    (n : T (numbered (settings ++ cylinderOwn (c .radius) (axis c)))) (e : refusal (cylinderTests s c extra settings) ≡ 0)
+    (n : T (numbered (settings ++ (axisTests s ++ cylinderOwn (c .radius) (axis c))))) (e : refusal (cylinderTests s c extra settings) ≡ 0)
     {t : Settings} (taken : SettingsTaken t) where
   abbrev distance : Float
   distance = cylinderDistance s c t .hit .distance
