@@ -1,5 +1,5 @@
--- The answer of an assembly, at each place where the call ends: a number before the bodies, a body's number, a verdict. By the laws of
--- tests in order, and by the bodies' own verdicts.
+-- The answer of an assembly, at each place where the call ends: a number before the bodies, a body's number, a verdict. By the
+-- laws of tests in order, and by the bodies' own verdicts.
 use Prim.Native.Nat.{ℕ}
 use mathlib.Core.Bool.{Bool}
 use mathlib.Core.List.{List, flatMap}
@@ -16,12 +16,14 @@ use Rattle.assemblies.specs.Assemblies.{beforeBodies, hitTests, hits, an
 use Rattle.assemblies.specs.Steps.{ownCollision}
 use Rattle.assemblies.proofs.Single.{by-own-verdicts}
 
-module _ (s : List Float) (bodies : List Body) (count : ℕ) (clearance : Float) {n : ℕ} (e : n ≡ refusal (beforeBodies s count clearance)) where
+module _ (s : List Float) (bodies : List Body) (count : ℕ) (clearance : Float) {n : ℕ}
+    (e : n ≡ refusal (beforeBodies s count clearance)) where
   abbrev own : List Test
   own = flatMap aloneTests (take count bodies)
 
   -- n is the answer's number
-  ended : {m : ℕ} → m ≡ refusal (hitTests s bodies count clearance) → (m ≡ 0 → ⊥) → turned-down m ≡ anyHit s bodies count clearance
+  ended : {m : ℕ} → m ≡ refusal (hitTests s bodies count clearance) → (m ≡ 0 → ⊥)
+      → turned-down m ≡ anyHit s bodies count clearance
   unfolding anyHit
   ended {m} f k = refused m _ k ∙ ap (λ (i : ℕ). reply i (anyOf (hits s clearance) (take count bodies))) f
 

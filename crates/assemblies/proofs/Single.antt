@@ -1,5 +1,5 @@
--- The answer and the single verdicts: where nothing is turned down, each body's own verdict is whether it hits, so that anything hits
--- exactly when some body's own verdict is collision, and nothing does exactly when every body's is clear.
+-- The answer and the single verdicts: where nothing is turned down, each body's own verdict is whether it hits, so that anything
+-- hits exactly when some body's own verdict is collision, and nothing does exactly when every body's is clear.
 use Prim.Native.Nat.{ℕ}
 use mathlib.Core.Bool.{Bool, true, false, not, _||_, or-true}
 use mathlib.Core.List.{List, [], _∷_}
@@ -70,6 +70,9 @@ module _ {A : Type 0} (test : A → Bool) (own : A → Reply Bool) where
 -- ---- of the bodies of an assembly that is not turned down
 module _ (s : List Float) (bodies : List Body) (count : ℕ) (clearance : Float)
     (e : refusal (hitTests s bodies count clearance) ≡ 0) where
+  abbrev own : Body → Reply Bool
+  own b = bodyVerdict s b clearance
+
   -- each body's own verdict
   pub own-verdicts : All (λ (b : Body). bodyVerdict s b clearance ≡ value (hits s clearance b)) (take count bodies)
   unfolding bodyVerdict
@@ -77,7 +80,7 @@ module _ (s : List Float) (bodies : List Body) (count : ℕ) (clearance : Float)
 
   -- judging by the bodies' own verdicts is judging all of them
   pub by-own-verdicts : anyOf (ownCollision s clearance) (take count bodies) ≡ anyOf (hits s clearance) (take count bodies)
-  by-own-verdicts = any-same (hits s clearance) (λ (b : Body). bodyVerdict s b clearance) own-verdicts
+  by-own-verdicts = any-same (hits s clearance) own own-verdicts
 
   answer : anyHit s bodies count clearance ≡ value (anyOf (hits s clearance) (take count bodies))
   unfolding anyHit
@@ -86,16 +89,16 @@ module _ (s : List Float) (bodies : List Body) (count : ℕ) (clearance : Float)
   -- the answer is collision exactly when some body's own verdict is, and clear exactly when every body's is
   pub collision-some : anyHit s bodies count clearance ≡ value true
       → Some (λ (b : Body). bodyVerdict s b clearance ≡ value true) (take count bodies)
-  collision-some h = some-true (hits s clearance) (λ (b : Body). bodyVerdict s b clearance) own-verdicts (value-same (sym answer ∙ h))
+  collision-some h = some-true (hits s clearance) own own-verdicts (value-same (sym answer ∙ h))
 
   pub some-collision : Some (λ (b : Body). bodyVerdict s b clearance ≡ value true) (take count bodies)
       → anyHit s bodies count clearance ≡ value true
-  some-collision h = answer ∙ ap value (true-some (hits s clearance) (λ (b : Body). bodyVerdict s b clearance) own-verdicts h)
+  some-collision h = answer ∙ ap value (true-some (hits s clearance) own own-verdicts h)
 
   pub clear-all : anyHit s bodies count clearance ≡ value false
       → All (λ (b : Body). bodyVerdict s b clearance ≡ value false) (take count bodies)
-  clear-all h = all-false (hits s clearance) (λ (b : Body). bodyVerdict s b clearance) own-verdicts (value-same (sym answer ∙ h))
+  clear-all h = all-false (hits s clearance) own own-verdicts (value-same (sym answer ∙ h))
 
   pub all-clear : All (λ (b : Body). bodyVerdict s b clearance ≡ value false) (take count bodies)
       → anyHit s bodies count clearance ≡ value false
-  all-clear h = answer ∙ ap value (false-all (hits s clearance) (λ (b : Body). bodyVerdict s b clearance) own-verdicts h)
+  all-clear h = answer ∙ ap value (false-all (hits s clearance) own own-verdicts h)

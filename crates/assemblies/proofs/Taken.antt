@@ -1,5 +1,5 @@
--- What an assembly that is not turned down was given: nothing of any of its bodies is turned down beside the section and the clearance.
--- By the laws of tests in order: what passes before the bodies and in the body alone passes in the body's own call.
+-- What an assembly that is not turned down was given: nothing of any of its bodies is turned down beside the section and the
+-- clearance. By the laws of tests in order: what passes before the bodies and in the body alone passes in the body's own call.
 use Prim.Native.Nat.{ℕ, zero, suc, _≤_}
 use mathlib.Core.List.{List, [], _∷_, _++_, flatMap}
 use mathlib.Core.Path.{_≡_, refl, sym, subst, _∙_}
@@ -34,7 +34,9 @@ in-turn a b h e = none-then-none _ _ (sym (refusal-append a b h) ∙ e)
 each-alone : (l : List Body) → refusal (flatMap aloneTests l) ≡ 0 → All (λ (b : Body). refusal (aloneTests b) ≡ 0) l
 unfolding flatMap
 each-alone [] e = nil
-each-alone (b ∷ l) e = let p = in-turn (aloneTests b) (flatMap aloneTests l) (own-numbered b) e in cons (p .0) (each-alone l (p .1))
+each-alone (b ∷ l) e =
+    let p = in-turn (aloneTests b) (flatMap aloneTests l) (own-numbered b) e in
+    cons (p .0) (each-alone l (p .1))
 
 -- a body alone that passes: its numbers, and its own tests
 alone-taken : (b : Body) → refusal (aloneTests b) ≡ 0 → Taken 3 256 [] (bodyNumbers b) (bodyOwn b)

@@ -1,6 +1,6 @@
--- 02's "does anything hit": the first count of a list of bodies beside a section, with a clearance. The answer is that of judging all
--- of them. The numbers of section and clearance come first, then 17, then those of the bodies in their order, so that the first bad
--- body in the list gives its number, whether or not one before it collides.
+-- 02's "does anything hit": the first count of a list of bodies beside a section, with a clearance. The answer is that of judging
+-- all of them. The numbers of section and clearance come first, then 17, then those of the bodies in their order, so that the
+-- first bad body in the list gives its number, whether or not one before it collides.
 use Prim.Native.Nat.{ℕ}
 use mathlib.Core.Bool.{Bool}
 use mathlib.Core.List.{List, [], _∷_, _++_, flatMap}

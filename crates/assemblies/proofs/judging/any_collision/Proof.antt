@@ -12,7 +12,8 @@ use Rattle.assemblies.proofs.judging.any_collision.Tie as tie
 abbrev Inv-loop : tie.InvT-loop
 Inv-loop section count clearance bodies i₀ i =
     (i ≤ count) × (count ≤ length bodies)
-    × (anyOf (ownCollision section clearance) (drop i (take count bodies)) ≡ anyOf (ownCollision section clearance) (take count bodies))
+    × (anyOf (ownCollision section clearance) (drop i (take count bodies))
+    ≡ anyOf (ownCollision section clearance) (take count bodies))
 
 abbrev μ-loop : tie.MeasureT-loop
 μ-loop section count clearance bodies i₀ i = count - i

@@ -20,7 +20,8 @@ body-refusal-requires c κs = search needs
 
 returns : tie.Need-returns
 returns c =
-    own-after (givenTests _ _) [] (axisTests _) _ tt tt tt (c .body-refusal .ensures) no-settings (c .before .count-refusal .ensures)
+    own-after (givenTests _ _) [] (axisTests _) _ tt tt tt (c .body-refusal .ensures) no-settings
+    (c .before .count-refusal .ensures)
 
 pub before-bodies-spec : {M : Type 1} → statement M
 before-bodies-spec =

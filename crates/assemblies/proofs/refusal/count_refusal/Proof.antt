@@ -6,11 +6,11 @@ use Rattle.assemblies.proofs.refusal.count_refusal.Tie as tie
 
 returns : tie.Need-returns
 unfolding refusal
-returns c = rw (lt-ltb _ _ (c .if1 .taken))
+returns c = rw (lt-ltb 64 _ (c .if1 .taken))
 
 returns-2 : tie.Need-returns-2
 unfolding refusal
-returns-2 c = rw (le-ltb _ _ (c .if1 .left))
+returns-2 c = rw (le-ltb 64 _ (c .if1 .left))
 
 pub count-refusal-spec : {M : Type 1} → statement M
 count-refusal-spec = tie.close (tie.spec returns returns-2)
