@@ -11,7 +11,7 @@ pub enum Body {
 }
 
 impl Body {
-    /// Its kind, as in a store, and its seven numbers, the last of them 0 where it has fewer.
+    /// Its kind in C, and its seven numbers, the last of them 0 where it has fewer.
     fn given(self) -> (u32, [f64; 7]) {
         match self {
             Body::Sphere(Sphere { center: Point { x, y, z }, radius }) => (2, [x, y, z, radius, 0.0, 0.0, 0.0]),

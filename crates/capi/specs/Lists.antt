@@ -1,6 +1,6 @@
--- Bodies as C gives them: kinds as in a store, 2 a sphere, 3 a box, 4 a cylinder, and seven numbers a body, of which it takes the
--- first; and what the call of an assembly answers. 1 where the count of numbers is not seven a body, then 14 for another kind, of
--- at most 64 bodies, then the call's own order.
+-- Bodies as C gives them: kinds, 2 a sphere and 3 a box, as in a store, 4 a cylinder, and seven numbers a body, of which it takes
+-- the first; and what the call of an assembly answers. 1 where the count of numbers is not seven a body, then 14 for another kind,
+-- of at most 64 bodies, then the call's own order.
 use Prim.Native.Nat.{ℕ, zero, suc, _+_, _*_}
 use mathlib.Core.Bool.{Bool, not, _&&_, _||_, cond}
 use mathlib.Core.List.{List, [], _∷_}
