@@ -7,7 +7,7 @@ use mathlib.Core.Path.{_≡_, ap, sym, _∙_}
 use lib.Ieee.{Float}
 use lib.ListN.{take}
 use Rattle.profile.specs.Refusals.{Test, refusal, anyOf}
-use Rattle.profile.specs.Replies.{Reply, value, turned-down, reply}
+use Rattle.profile.specs.Replies.{value, turned-down, reply}
 use Rattle.profile.proofs.Replies.{refused}
 use Rattle.profile.proofs.Refusals.Ordered.{by-first, by-rest, or-else-none}
 use Rattle.bodies.specs.Bodies.{aloneTests}

@@ -1,7 +1,7 @@
 -- The first bad body in the list gives its number, whether or not one before it collides, and whatever stands behind it. By the
 -- laws of tests in order, over the bodies before it.
 use Prim.Native.Nat.{ℕ}
-use mathlib.Core.List.{List, [], _∷_, _++_, flatMap}
+use mathlib.Core.List.{List, _∷_, _++_, flatMap}
 use mathlib.Core.Path.{_≡_, refl, ap, sym, _∙_}
 use lib.Ieee.{Float}
 use lib.ListN.{take}

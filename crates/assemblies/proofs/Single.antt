@@ -2,15 +2,14 @@
 -- hits exactly when some body's own verdict is collision, and nothing does exactly when every body's is clear.
 use Prim.Native.Nat.{ℕ}
 use mathlib.Core.Bool.{Bool, true, false, not, _||_, or-true}
-use mathlib.Core.List.{List, [], _∷_}
+use mathlib.Core.List.{List, _∷_}
 use mathlib.Core.Path.{_≡_, refl, ap, sym, subst, _∙_}
 use lib.Dec.{T}
 use lib.Ieee.{Float}
 use lib.ListN.{take}
 use Rattle.profile.specs.Refusals.{refusal, anyOf}
-use Rattle.profile.specs.Replies.{Reply, value, turned-down, reply}
+use Rattle.profile.specs.Replies.{Reply, value}
 use Rattle.profile.proofs.Each.{All, nil, cons, all-map}
-use Rattle.bodies.specs.Bodies.{bodyTests}
 use Rattle.bodies.specs.declared.shapes.Body.{Body}
 use Rattle.verdicts.specs.Verdicts.{bodyVerdict}
 use Rattle.assemblies.specs.Assemblies.{hits, hitTests, anyHit}

@@ -2,7 +2,7 @@
 -- clearance. By the laws of tests in order: what passes before the bodies and in the body alone passes in the body's own call.
 use Prim.Native.Nat.{ℕ, zero, suc, _≤_}
 use mathlib.Core.List.{List, [], _∷_, _++_, flatMap}
-use mathlib.Core.Path.{_≡_, refl, sym, subst, _∙_}
+use mathlib.Core.Path.{_≡_, refl, sym, _∙_}
 use native.Mathlib.Omega.{arith}
 use lib.Dec.{T, nltb→le}
 use borrow.Author.Tests.{ne-eqb}
@@ -12,7 +12,7 @@ use Rattle.profile.specs.Refusals.{Test, refusal, anyOf, axisTests}
 use Rattle.profile.specs.Steps.{numbered, orElse}
 use Rattle.profile.proofs.Each.{All, nil, cons, all-map, all-first, all-rest, all-append}
 use Rattle.profile.proofs.Refusals.Ordered.{Passes, refusal-append}
-use Rattle.profile.proofs.Refusals.Passed.{Taken, NumberTaken, taken, passed}
+use Rattle.profile.proofs.Refusals.Passed.{Taken, taken, passed}
 use Rattle.bodies.specs.Bodies.{aloneTests, bodyTests, bodyNumbers, bodyOwn}
 use Rattle.bodies.specs.declared.shapes.Body.{Body}
 use Rattle.bodies.specs.declared.shapes.Body.the-variants.{Sphere, Box, Cylinder}

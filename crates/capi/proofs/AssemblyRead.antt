@@ -2,7 +2,7 @@
 -- the bodies given. By the tests in order, and since nothing behind the count, and none of more than 64 bodies, is looked at.
 use Prim.Native.Nat.{ℕ, zero, suc, _*_, _<_, _≤_}
 use mathlib.Core.Bool.{Bool, true, false, not, cond}
-use mathlib.Core.List.{List, [], _∷_}
+use mathlib.Core.List.{List}
 use mathlib.Core.Path.{_≡_, refl, ap, sym, subst, _∙_}
 use native.Mathlib.Nat.{le-refl}
 use native.Mathlib.Omega.{arith}
@@ -11,7 +11,7 @@ use lib.Ieee.{Float}
 use lib.ListN.{length, take}
 use Rattle.profile.specs.Refusals.{refusal}
 use Rattle.profile.specs.Replies.{Reply, turned-down}
-use Rattle.profile.proofs.Each.{All, nil, cons}
+use Rattle.profile.proofs.Each.{All, cons}
 use Rattle.profile.proofs.Refusals.Ordered.{Passes, none-applies}
 use Rattle.bodies.specs.declared.shapes.Body.{Body}
 use Rattle.assemblies.specs.Assemblies.{anyHit}

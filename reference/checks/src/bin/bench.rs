@@ -199,7 +199,7 @@ fn assemblies(least: Duration) {
             let mut boxes: Vec<Aabb> = (0..BODIES)
                 .map(|i| Aabb { z0: 3.0 * i as f64, z1: 3.0 * i as f64 + 2.0, r0: 60.0, r1: 70.0 })
                 .collect();
-            place.into_iter().for_each(|i: usize| boxes[i] = Aabb { z0: 5.0, z1: 8.0, r0: 4.0, r1: 60.0 });
+            place.into_iter().for_each(|i: usize| boxes[i] = Aabb { z0: -5.0, z1: 8.0, r0: 4.0, r1: 60.0 });
             let bodies: Vec<jorghipa::Body> = boxes.iter().copied().map(jorghipa::Body::Box).collect();
             assert_eq!(jorghipa::any_hit(&list, &bodies, CLEARANCE), Ok(place.is_some()));
             let once = [()];
@@ -255,7 +255,7 @@ fn main() {
     println!("| call | vertices | Rust, libm's hypot | Rust, exact hypot | port | port / Rust with libm |");
     println!("|---|---:|---:|---:|---:|---:|");
     queries(least);
-    cylinders(least);
     assemblies(least);
+    cylinders(least);
     roots(least);
 }

@@ -1,6 +1,5 @@
 -- `assemblies::refusal::bodies_refusal` meets its contract: what is not yet checked decides for all.
 use Prim.Native.Nat.{_≤_, _-_}
-use native.Mathlib.Omega.{arith}
 use mathlib.Core.List.{flatMap}
 use mathlib.Core.Path.{_≡_}
 use lib.ListN.{length, drop, take}
