@@ -9,15 +9,15 @@ use Rattle.arith.specs.Num.{isFinite}
 use Rattle.arith.specs.Vector.{vec}
 use Rattle.roots.specs.Roots.{sqrt, hypot}
 use Rattle.profile.specs.Vertices.{upto, any}
-use Rattle.profile.specs.Refusals.{refusal, anyOf}
+use Rattle.profile.specs.Refusals.{anyBelowAxis, refusal, anyOf}
 use Rattle.profile.specs.Replies.{Reply, value}
-use Rattle.segments.specs.Segments.{closest, closestPlaces, segments}
+use Rattle.segments.specs.Segments.{closestPoint, closest, closestPlaces, segments}
 use Rattle.segments.specs.Clip.{clipSide, clip}
 use Rattle.points.specs.Points.{surfaceStep, surfaceNear, crosses, pointInside, insideAxisEdge, inSection, pointDistance}
 use Rattle.points.specs.Overlap.{resultOf}
 use Rattle.boxes.specs.Boxes.{edgeBox, strictlyInsideAabb, segmentThroughInterior, boxGap, boxPenetration, boxWitness}
 use Rattle.boxes.specs.Boxes.{boxHolds, boxDistance}
-use Rattle.builders.specs.Builder.{samePoint, keep, sectionPoints, sectionOf}
+use Rattle.builders.specs.Builder.{samePoint, keep, keptPoints, sectionOf}
 use Rattle.bands.specs.Axis.{axisDir, axis}
 use Rattle.bands.specs.Band.{bar, axialBox, bandOf, halfWidth, spanAt}
 use Rattle.bands.specs.declared.shapes.Cylinder.{Cylinder}
@@ -57,9 +57,9 @@ pub record LeaningBars : Type 0 where
 
 pub leaning-bars : LeaningBars
 unfolding add sub mul div neg lt le ofInt ofBits sqrt hypot isFinite
-    upto any closest closestPlaces segments surfaceStep surfaceNear crosses pointInside insideAxisEdge inSection pointDistance
-    clipSide clip edgeBox strictlyInsideAabb segmentThroughInterior boxGap boxPenetration boxWitness boxHolds resultOf boxDistance
-    samePoint keep sectionPoints sectionOf refusal anyOf axisDir axis axialBox bandOf halfWidth spanAt bandDistance
+    upto any closestPoint closest closestPlaces segments surfaceStep surfaceNear crosses pointInside insideAxisEdge inSection
+    pointDistance clipSide clip edgeBox strictlyInsideAabb segmentThroughInterior boxGap boxPenetration boxWitness boxHolds resultOf boxDistance
+    samePoint keep keptPoints sectionOf refusal anyOf anyBelowAxis axisDir axis axialBox bandOf halfWidth spanAt bandDistance
     cylinderDistance bodyVerdict
 leaning-bars =
     record {
