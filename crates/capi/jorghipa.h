@@ -16,6 +16,7 @@
  *    4  a number is NaN or infinite           9  body radius below 0
  *    5  a magnitude over the limit           10  z1 < z0 or r1 < r0
  *   18  a setting out of range or not finite 11  cylinder neither along the spindle nor across it
+ *   14  body of an unknown kind (assembly)   17  more than 64 bodies (assembly)
  * So 18 stands between 5 and 6. 4 and 5 do not look at the settings: a tolerance of NaN is 18.
  *
  * jorghipa_records.h has the queries of a point, sphere, box and cylinder over an array of vertices.
@@ -104,6 +105,15 @@ uint32_t jorghipa_verdict_cylinder(const double *section, size_t section_count, 
 
 uint32_t jorghipa_verdict_convex(const double *convex, size_t convex_count, const double *section,
                                  size_t section_count, double clearance, uint32_t *collision);
+
+/* Does anything of an assembly hit? Body i of `count` has the kind kinds[i], 2 a sphere, 3 a box, 4 a cylinder, and the seven
+ * numbers from numbers[7 * i] on, of which it takes the first:
+ *    2  x y z radius      3  z0 z1 r0 r1      4  ax ay az bx by bz radius
+ * *hit is 1 exactly when the verdict on some body is collision, else 0; of no body it is 0. The tests, in their order: 1 where
+ * numbers_count is not 7 * count; 14 for another kind, where count is at most 64; 1 to 6 of section and clearance; 17 where count
+ * is over 64; then the first bad body's 4, 5, 9, 10 or 11, also where a body before it collides. */
+uint32_t jorghipa_any_hit(const double *section, size_t section_count, const uint32_t *kinds, size_t count,
+                          const double *numbers, size_t numbers_count, double clearance, uint32_t *hit);
 
 #ifdef __cplusplus
 }

@@ -1,5 +1,6 @@
 #![doc = include_str!("../README.md")]
 
+mod assemblies;
 mod builders;
 mod cylinders;
 mod distances;
@@ -9,6 +10,7 @@ mod records;
 mod refusal;
 mod verdicts;
 
+pub use assemblies::*;
 pub use builders::*;
 pub use cylinders::*;
 pub use distances::*;

@@ -46,6 +46,10 @@ unsafe extern "C" {
         convex: *const f64, convex_count: usize, section: *const f64, section_count: usize, clearance: f64,
         collision: *mut u32,
     ) -> u32;
+    pub fn jorghipa_any_hit(
+        section: *const f64, section_count: usize, kinds: *const u32, count: usize, numbers: *const f64,
+        numbers_count: usize, clearance: f64, hit: *mut u32,
+    ) -> u32;
     pub fn jorghipa_sqrt(x: f64) -> f64;
     pub fn jorghipa_hypot(a: f64, b: f64) -> f64;
 }

@@ -79,6 +79,27 @@ fn verdicts() {
 }
 
 #[test]
+fn assemblies() {
+    let ball = |x, radius| Body::Sphere(Sphere { center: at(x, 0.0, 10.0), radius });
+    let (far, inside) = (ball(30.0, 1.0), Body::Box(bounds(5.0, 6.0, 2.0, 11.0)));
+    let (skew, reversed) = (bar(at(0.0, 0.0, 0.0), at(1.0, 0.0, 1.0), 1.0), bounds(5.0, 4.0, 0.0, 5.0));
+    let (skew, reversed) = (Body::Cylinder(skew), Body::Box(reversed));
+    assert_eq!(any_hit(&S, &[], 6.0), Ok(false));
+    for count in [1, 63, 64] {
+        let mut bodies = vec![far; count];
+        assert_eq!(any_hit(&S, &bodies, 6.0), Ok(false));
+        bodies[count - 1] = inside;
+        assert_eq!(any_hit(&S, &bodies, 6.0), Ok(true));
+    }
+    assert_eq!(any_hit(&S, &[skew; 65], 6.0), Err(Refusal(17)));
+    assert_eq!(any_hit(&with_radius(-1.0), &[skew; 65], 6.0), Err(Refusal(6)));
+    assert_eq!(any_hit(&S, &[skew; 65], f64::NAN), Err(Refusal(4)));
+    assert_eq!(any_hit(&S, &[inside, skew, reversed], 6.0), Err(Refusal(11)));
+    assert_eq!(any_hit(&S, &[reversed, inside, skew], 6.0), Err(Refusal(10)));
+    assert_eq!(any_hit(&S, &[inside, ball(8.0, -1.0)], 6.0), Err(Refusal(9)));
+}
+
+#[test]
 fn builders() {
     let mut space = [7.0; 9];
     assert_eq!(build_section(&[0.0, 10.0, 20.0, 10.0], &mut space), Ok(&S[..]));

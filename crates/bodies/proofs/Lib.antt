@@ -1,3 +1,4 @@
--- What a body's query promises, kind by kind; 01's lowest number.
+-- What is turned down of a body alone; what its query promises, kind by kind; 01's lowest number.
+pub mod Alone
 pub mod OfKind
 pub mod Lowest

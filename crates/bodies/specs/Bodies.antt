@@ -1,9 +1,9 @@
 -- One body: its numbers, its own tests, its distance and what its query answers.
 use Prim.Native.Nat.{ℕ}
 use mathlib.Core.Bool.{false}
-use mathlib.Core.List.{List, []}
+use mathlib.Core.List.{List, [], _++_}
 use lib.Ieee.{Float}
-use Rattle.profile.specs.Refusals.{Test, refusal, sphereNumbers, boxNumbers, radiusTests, boundsTests, besideTests}
+use Rattle.profile.specs.Refusals.{Test, refusal, sphereNumbers, boxNumbers, numberTests, radiusTests, boundsTests, besideTests}
 use Rattle.profile.specs.Replies.{Reply, reply}
 use Rattle.profile.specs.declared.shapes.CollisionHit.{CollisionHit}
 use Rattle.points.specs.Points.{sphereDistance}
@@ -27,6 +27,10 @@ abbrev pub bodyOwn : Body → List Test
 bodyOwn (Sphere b) = radiusTests (b .radius)
 bodyOwn (Box x) = boundsTests x
 bodyOwn (Cylinder c) = cylinderOwn (c .radius) (axis c)
+
+-- the body alone, whatever stands beside it
+abbrev pub aloneTests : Body → List Test
+aloneTests b = numberTests (bodyNumbers b) ++ bodyOwn b
 
 -- beside a section, with more numbers that are given, and tests of settings
 abbrev pub bodyTests : List Float → Body → List Float → List Test → List Test

@@ -1,2 +1,4 @@
--- What an answer's case gives, an equal answer gives.
+-- What an answer's case gives, an equal answer gives; bodies as they are read, and an assembly of them.
 pub mod Same
+pub mod BodiesRead
+pub mod AssemblyRead

@@ -1,11 +1,14 @@
 // The C interface. Each function returns 0, or the number under which the call is turned down; then
 // nothing that was lent is changed. jorghipa.h declares them and says what the caller owes.
+mod assembly;
 mod building;
 mod cylinder;
 mod distances;
+mod lists;
 mod numbers;
 mod verdict;
 
+pub use assembly::jorghipa_any_hit;
 pub use building::jorghipa_build_polygon;
 pub use building::jorghipa_build_section;
 pub use cylinder::jorghipa_cylinder;

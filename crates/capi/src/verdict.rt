@@ -13,7 +13,7 @@ use profile::Sphere;
 use verdicts::Verdict;
 
 // Puts a verdict into its place, and gives the number of a refusal.
-fn judge(verdict: Verdict, collision: &mut u32) -> u32
+pub fn judge(verdict: Verdict, collision: &mut u32) -> u32
     ensures { λ r. ⌜ Gives mark (told verdict) r (now (collision .entry)) (now (collision .exit)) ⌝ }
 {
     match verdict {

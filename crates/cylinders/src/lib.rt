@@ -9,3 +9,4 @@ pub use shapes::CountedAnswer;
 // For the crates above, without checks of the input.
 pub use queries::cylinder_distance;
 pub use refusal::cylinder_refusal;
+pub use refusal::own_refusal;

@@ -9,7 +9,7 @@ use bands::Cylinder;
 use profile::body_refusal;
 
 // A negative radius, and an axis neither along nor across the spindle.
-fn own_refusal(radius: f64, axis: Axis) -> u32
+pub fn own_refusal(radius: f64, axis: Axis) -> u32
     ensures { λ r. ⌜ r ≡ refusal (cylinderOwn radius axis) ⌝ }
 {
     if radius < 0.0 {

@@ -127,20 +127,32 @@ pub fn list_refusal(l: &[f64], least: usize, most: usize) -> u32
 }
 
 // Number 9: a body's radius is below 0.
-fn radius_refusal(radius: f64) -> u32
+pub fn radius_refusal(radius: f64) -> u32
     ensures { λ r. ⌜ r ≡ refusal (refusals.radiusTests radius) ⌝ }
 {
     if radius < 0.0 { 9 } else { 0 }
 }
 
 // Number 10: the ends of a box are reversed.
-fn bounds_refusal(x: Aabb) -> u32
+pub fn bounds_refusal(x: Aabb) -> u32
     ensures { λ r. ⌜ r ≡ refusal (refusals.boundsTests x) ⌝ }
 {
     if x.z1 < x.z0 {
         return 10;
     }
     if x.r1 < x.r0 { 10 } else { 0 }
+}
+
+// A body alone: numbers 4 and 5, then its own.
+pub fn alone_refusal(numbers: &[f64], own: u32) -> u32
+    ensures { λ r. ⌜ r ≡ orElse (refusal (refusals.numberTests (now (numbers .entry)))) own ⌝ }
+{
+    let none = [0.0; 0];
+    let of_body = numbers_refusal(numbers, &none, &none);
+    if of_body != 0 {
+        return of_body;
+    }
+    own
 }
 
 // A radius below -1e-9.

@@ -1,6 +1,7 @@
-//! What compare, roots and bench share: queries and answers, the judge, the port, and the generators of inputs.
+//! What the programs share: queries and answers, the judge, the port, and the generators of inputs.
 
 pub mod answer;
+pub mod assembly;
 pub mod fixed;
 pub mod generate;
 pub mod judge;

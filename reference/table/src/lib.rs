@@ -1,5 +1,5 @@
-//! Document 01's table of refusals, numbers 1 to 11, with request (vi)'s 18 and (xi)'s 6, and its builder rules, written from
-//! their text.
+//! Document 01's table of refusals, numbers 1 to 11, with requests (iii)'s 17, (vi)'s 18 and (xi)'s 6, and its builder rules,
+//! written from their text.
 //! Each call has one list of tests, written in the order in which it tests: the first that is true gives the number.
 
 mod builder;
@@ -97,6 +97,40 @@ fn range(settings: Settings) -> Test {
 pub fn cylinder(section: &[f64], body: [f64; 7], settings: Settings, more: &[f64]) -> Result<(), u32> {
     let own = [range(settings), radii(section), (9, body[6] < 0.0), (11, axis(body).is_none())];
     first(&[&vertices(&[section]), &numbers(&[section, &body, more]), &own])
+}
+
+/// A body of request (iii)'s assembly, its numbers as above.
+#[derive(Clone, Copy, Debug)]
+pub enum Body {
+    Sphere([f64; 4]),
+    Box([f64; 4]),
+    Cylinder([f64; 7]),
+}
+
+impl Body {
+    pub fn numbers(&self) -> &[f64] {
+        match self {
+            Body::Sphere(body) | Body::Box(body) => body,
+            Body::Cylinder(body) => body,
+        }
+    }
+
+    /// Whether it is well formed by itself.
+    fn alone(&self) -> Result<(), u32> {
+        let own: &[Test] = match *self {
+            Body::Sphere(body) => &[(9, body[3] < 0.0)],
+            Body::Box([z0, z1, r0, r1]) => &[(10, z1 < z0 || r1 < r0)],
+            Body::Cylinder(body) => &[(9, body[6] < 0.0), (11, axis(body).is_none())],
+        };
+        first(&[&numbers(&[self.numbers()]), own])
+    }
+}
+
+/// The numbers of section and clearance, then 17, then the first bad body's own.
+pub fn assembly(section: &[f64], bodies: &[Body], clearance: f64) -> Result<(), u32> {
+    let own = [radii(section), (17, bodies.len() > 64)];
+    first(&[&vertices(&[section]), &numbers(&[section, &[clearance]]), &own])?;
+    bodies.iter().try_for_each(Body::alone)
 }
 
 /// The directions that the axis test tells apart: along the spindle, and across it along X or, by request (iv), Y.
@@ -218,6 +252,24 @@ mod tests {
         assert_eq!(cylinder(&low, skew, Settings { most: 0, ..FINEST }, &[]), Err(18));
         assert_eq!(point(&low[..7], o, &[]), Err(1));
         assert_eq!(point(&with(-2e6), o, &[]), Err(5));
+    }
+
+    #[test]
+    fn assemblies() {
+        let low = [0.0, 10.0, 20.0, 10.0, 20.0, -1.0, 0.0, 0.0];
+        let (ball, reversed) = (Body::Sphere([0.0, 0.0, 10.0, 1.0]), Body::Box([5.0, 4.0, 0.0, 1.0]));
+        let (thin, broken) = (Body::Sphere([0.0, 0.0, 0.0, -1.0]), Body::Box([f64::NAN, 0.0, 0.0, 0.0]));
+        let skew = Body::Cylinder([0.0, 0.0, 0.0, 1.0, 0.0, 1.0, 1.0]);
+        assert_eq!(assembly(&S, &[], 0.0), Ok(()));
+        assert_eq!(assembly(&S, &[ball; 64], 0.0), Ok(()));
+        assert_eq!(assembly(&S, &[broken; 65], 0.0), Err(17));
+        assert_eq!(assembly(&low, &[broken; 65], 0.0), Err(6));
+        assert_eq!(assembly(&low, &[broken; 65], f64::NAN), Err(4));
+        // The first in the list, not the lowest over all.
+        assert_eq!(assembly(&S, &[ball, skew, broken], 0.0), Err(11));
+        assert_eq!(assembly(&S, &[ball, reversed, thin], 0.0), Err(10));
+        assert_eq!(assembly(&S, &[thin, reversed], 0.0), Err(9));
+        assert_eq!(assembly(&S, &[Body::Sphere([2e6, 0.0, 0.0, -1.0])], 0.0), Err(5));
     }
 
     #[test]

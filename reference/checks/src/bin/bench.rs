@@ -177,6 +177,42 @@ fn cylinders(least: Duration) {
     }
 }
 
+macro_rules! rust_any {
+    ($copy:ident, $points:expr, $boxes:expr, $once:expr) => {{
+        let (points, boxes) = ($points, $boxes);
+        over($once, move |()| {
+            boxes.iter().any(|x: &Aabb| {
+                let hit = $copy::aabb_polygon_distance(x.z0, x.z1, x.r0, x.r1, points);
+                hit.is_some_and(|hit| hit.0 + 1e-9 < CLEARANCE)
+            })
+        })
+    }};
+}
+
+/// 64 boxes clear of the section, one of them put into it or none. The Rust has no such call: it judges box after box until one
+/// collides, and checks none of those behind it.
+fn assemblies(least: Duration) {
+    for (name, place) in [("the first", Some(0)), ("the last", Some(BODIES - 1)), ("none", None)] {
+        for count in [4, 16, 64, 256] {
+            let list = section(count);
+            let points = vertices(&list);
+            let mut boxes: Vec<Aabb> = (0..BODIES)
+                .map(|i| Aabb { z0: 3.0 * i as f64, z1: 3.0 * i as f64 + 2.0, r0: 60.0, r1: 70.0 })
+                .collect();
+            place.into_iter().for_each(|i: usize| boxes[i] = Aabb { z0: -5.0, z1: 8.0, r0: 4.0, r1: 60.0 });
+            let bodies: Vec<jorghipa::Body> = boxes.iter().copied().map(jorghipa::Body::Box).collect();
+            assert_eq!(jorghipa::any_hit(&list, &bodies, CLEARANCE), Ok(place.is_some()));
+            let once = [()];
+            let ways = [
+                rust_any!(revolve_libm, &points, &boxes, &once),
+                rust_any!(revolve_exact, &points, &boxes, &once),
+                over(&once, |()| jorghipa::any_hit(&list, &bodies, CLEARANCE)),
+            ];
+            print_row(Row { name: format!("any hit of 64 boxes, {name} colliding"), vertices: count, ways }, least);
+        }
+    }
+}
+
 fn roots(least: Duration) {
     let mut random = Random::new(2, 0);
     let pairs: Vec<(f64, f64)> = (0..1024).map(|_| (random.between(-50.0, 150.0), random.between(0.0, 60.0))).collect();
@@ -219,6 +255,7 @@ fn main() {
     println!("| call | vertices | Rust, libm's hypot | Rust, exact hypot | port | port / Rust with libm |");
     println!("|---|---:|---:|---:|---:|---:|");
     queries(least);
+    assemblies(least);
     cylinders(least);
     roots(least);
 }

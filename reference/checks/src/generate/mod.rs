@@ -1,11 +1,13 @@
 //! Queries from a seed: lathe profiles and other polygons, bodies at, in and beside them, and malformed ones.
 
+mod assemblies;
 mod bodies;
 mod malformed;
 mod sections;
 
 use crate::query::{Kind, Query};
 use crate::random::Random;
+pub use assemblies::assembly;
 pub use sections::{list, rotated, section};
 
 /// Sizes of coordinates.

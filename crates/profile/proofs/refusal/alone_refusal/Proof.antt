@@ -1,0 +1,35 @@
+-- `profile::refusal::alone_refusal` meets its contract.
+use borrow.Author.Needs.{needs}
+use mathlib.Core.List.{[], append-nil}
+use mathlib.Core.Path.{refl}
+use Rattle.profile.specs.Refusals.{numberTests}
+use Rattle.profile.proofs.Refusals.Ordered.{by-first, by-own, no-settings}
+use Rattle.profile.proofs.refusal.alone_refusal.Statement.{statement}
+use Rattle.profile.proofs.refusal.alone_refusal.Tie as tie
+
+slice-aggregate-numbers-refusal : tie.Need-slice-aggregate-numbers-refusal
+slice-aggregate-numbers-refusal c = search needs
+
+slice-aggregate-numbers-refusal-2 : tie.Need-slice-aggregate-numbers-refusal-2
+slice-aggregate-numbers-refusal-2 c = search needs
+
+numbers-refusal-requires : tie.Need-numbers-refusal-requires
+numbers-refusal-requires c κs = search needs
+
+returns : tie.Need-returns
+returns c =
+    by-first (numberTests _) [] tt _ (rw append-nil at (c .before .numbers-refusal .ensures)) (c .if1 .taken)
+
+returns-2 : tie.Need-returns-2
+returns-2 c =
+    by-own (numberTests _) [] tt _ (rw append-nil at (c .before .numbers-refusal .ensures)) (c .if1 .left) no-settings refl
+
+pub alone-refusal-spec : {M : Type 1} → statement M
+alone-refusal-spec =
+    tie.close
+    (tie.spec
+    slice-aggregate-numbers-refusal
+    slice-aggregate-numbers-refusal-2
+    numbers-refusal-requires
+    returns
+    returns-2)
