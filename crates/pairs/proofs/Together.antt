@@ -7,12 +7,12 @@ use mathlib.Core.Path.{_≡_, sym, subst, _∙_}
 use lib.Dec.{T}
 use lib.Ieee.{Float}
 use Rattle.arith.specs.F64.{_≺_}
-use Rattle.profile.specs.Refusals.{Test, refusal, anyOf, anyBelowAxis, listTests, axisTests, convexTests}
+use Rattle.profile.specs.Refusals.{Test, refusal, anyBelowAxis, listTests, axisTests, convexTests}
 use Rattle.profile.specs.Replies.{Reply, value, reply, mapped, OfValue, Answers}
 use Rattle.profile.specs.Steps.{numbered, orElse}
-use Rattle.profile.proofs.Each.{All, nil, cons, all-first, all-rest, all-append}
-use Rattle.profile.proofs.Refusals.Ordered.{Passes, none-applies, all-pass, refusal-append}
-use Rattle.profile.proofs.Refusals.Passed.{ShapeTaken, Taken, taken, passed}
+use Rattle.profile.proofs.Each.{All, nil, all-first, all-rest, all-append}
+use Rattle.profile.proofs.Refusals.Ordered.{none-applies, all-pass, refusal-append}
+use Rattle.profile.proofs.Refusals.Passed.{Taken, taken, passed}
 use Rattle.profile.proofs.Replies.{mapped-answers, mapped-reply}
 use Rattle.profile.specs.declared.shapes.CollisionHit.{CollisionHit}
 use Rattle.convex.specs.Convex.{convexDistance}
@@ -23,7 +23,7 @@ use Rattle.settings.proofs.Taken.{finest-taken}
 use Rattle.walk.specs.declared.shapes.CountedHit.{CountedHit}
 use Rattle.bodies.specs.Bodies.{aloneTests, bodyNumbers, bodyOwn, bodyTests, boxesOnly}
 use Rattle.bodies.specs.declared.shapes.Body.{Body}
-use Rattle.bodies.specs.declared.shapes.Body.the-variants.{Sphere, Box, Cylinder}
+use Rattle.bodies.proofs.Alone.{own-numbered, alone-taken}
 use Rattle.pairs.specs.Pairs.{Won, won, nearer, winner, oneSectionTests, pairTests}
 use Rattle.pairs.specs.Steps.{nearerOf}
 
@@ -64,20 +64,11 @@ all-taken chuck work own h e =
       own-taken = all-pass (all-rest (oneSectionTests work) own q);
     }
 
-own-numbered : (b : Body) → T (numbered (bodyOwn b))
-own-numbered (Sphere b) = tt
-own-numbered (Box x) = tt
-own-numbered (Cylinder c) = tt
-
 pub alone-numbered : (b : Body) → T (numbered (aloneTests b))
 alone-numbered b = own-numbered b
 
 section-taken : (s : List Float) → refusal (oneSectionTests s) ≡ 0 → Taken 3 256 (s ∷ []) s (axisTests s)
 section-taken s e = taken 3 256 (s ∷ []) s (axisTests s) tt e
-
-alone-taken : (b : Body) → refusal (aloneTests b) ≡ 0 → Taken 3 256 [] (bodyNumbers b) (bodyOwn b)
-unfolding refusal anyOf
-alone-taken b e = taken 3 256 [] (bodyNumbers b) (bodyOwn b) (own-numbered b) e
 
 -- a body beside one of the sections, at the finest settings
 pub body-passes : (s : List Float) (b : Body) → refusal (oneSectionTests s) ≡ 0 → refusal (aloneTests b) ≡ 0
