@@ -8,7 +8,7 @@ pub const LIFTED: &[(&str, Make)] = &[("middle on the axis", on_axis), ("witness
 
 /// A point, a sphere or a cylinder along the spindle, before z = 0, whose middle is at x and y.
 fn before(random: &mut Random, kind: Kind, section: Vec<(f64, f64)>, [x, y]: [f64; 2]) -> Query {
-    let (z, radius) = (random.pick(&[-1.0, -3.0, -0.125]), random.pick(&[0.0, 0.0625, 4.0]));
+    let (z, radius) = (random.pick(&[-8.0, -12.5, -30.0]), random.pick(&[0.0, 0.0625, 4.0]));
     let numbers: &[f64] = match kind.lifted() {
         Some(Kind::Point) => &[x, y, z],
         Some(Kind::Sphere) => &[x, y, z, radius],
@@ -25,7 +25,7 @@ fn on_axis(random: &mut Random, kind: Kind) -> Near {
     Near { query: before(random, kind, section, middle), number, threshold: 0.0 }
 }
 
-/// A point of the section at z = 0 from which its edges lead away: the witness.
+/// The witness is the tip of the section, its vertex at z = 0.
 fn radius_zero(random: &mut Random, kind: Kind) -> Near {
     let number = random.near(0.0);
     let middle = random.pick(&[[3.0, 4.0], [-4.0, 3.0], [0.0, -2.0], [-0.0, 0.0], [0.7, -0.1]]);
