@@ -53,7 +53,7 @@ fn lifted() {
     assert_eq!(lifted_point(&S, at(3.0, 4.0, 30.0)), Ok(hit(10.0, at(3.0, 4.0, 20.0), 1)));
     assert_eq!(lifted_point(&S, at(-0.0, 0.0, 10.0)), Ok(hit(-10.0, at(10.0, 0.0, 10.0), 0)));
     let ball = Sphere { center: at(-6.0, 8.0, 30.0), radius: 4.0 };
-    assert_eq!(lifted_sphere(&S, ball), Ok(hit(6.0, at(-6.0, 8.0, 20.0), 1)));
+    assert_eq!(lifted_sphere(&S, ball), Ok(hit(6.0, at(-6.0, 8.0, 20.0), 0)));
     // Multiplied first: 1 / 5 times 3 were 0.6000000000000001.
     let thin = [0.0, 1.0, 20.0, 1.0, 20.0, 0.0, 0.0, 0.0];
     assert_eq!(lifted_point(&thin, at(3.0, 4.0, 10.0)), Ok(hit(4.0, at(0.6, 0.8, 10.0), 0)));

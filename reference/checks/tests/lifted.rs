@@ -33,7 +33,7 @@ fn by_hand() {
     reads(&S, Kind::LiftedPoint, &[-0.0, -0.0, 10.0], (-10.0, [10.0, 0.0, 10.0], 0));
     // Hardly off it, it stands along y.
     reads(&S, Kind::LiftedPoint, &[0.0, -5e-324, 10.0], (-10.0, [0.0, -10.0, 10.0], 0));
-    reads(&S, Kind::LiftedSphere, &[-6.0, 8.0, 30.0, 4.0], (6.0, [-6.0, 8.0, 20.0], 1));
+    reads(&S, Kind::LiftedSphere, &[-6.0, 8.0, 30.0, 4.0], (6.0, [-6.0, 8.0, 20.0], 0));
     reads(&S, Kind::LiftedSphere, &[0.0, 0.0, 30.0, 4.0], (6.0, [0.0, 0.0, 20.0], 1));
     // 3 / 5, where 1 / 5 times 3 is 0.6000000000000001.
     let thin = [0.0, 1.0, 20.0, 1.0, 20.0, 0.0, 0.0, 0.0];
