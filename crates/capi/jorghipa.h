@@ -115,6 +115,28 @@ uint32_t jorghipa_verdict_convex(const double *convex, size_t convex_count, cons
 uint32_t jorghipa_any_hit(const double *section, size_t section_count, const uint32_t *kinds, size_t count,
                           const double *numbers, size_t numbers_count, double clearance, uint32_t *hit);
 
+/* Chuck and work together: the smaller of the distances that the two sections give by themselves; the chuck wins an equal
+ * one. *winner is 0 for the chuck, 1 for the work; the other places are those of the winner, as of a cylinder. A sphere and a
+ * convex polygon count no box, a box one; nothing waits, uncut. A cylinder is measured at the finest settings.
+ *
+ * The body's kind and seven numbers, of which the rest is not looked at:
+ *    2  sphere    x, y, z, radius
+ *    3  box       z0, z1, r0, r1
+ *    4  cylinder  ax, ay, az, bx, by, bz, radius
+ *
+ * The order: 1 where numbers_count is not 7, 14 for another kind; 1 to 6 of the chuck, 1 to 6 of the work; then of the body
+ * 4 and 5, and 9, or 10, or 9 and 11. */
+uint32_t jorghipa_pair(const double *chuck, size_t chuck_count, const double *work, size_t work_count, uint32_t kind,
+                       const double *numbers, size_t numbers_count, uint32_t *winner, double *distance,
+                       double *witness_z, double *witness_radius, uint32_t *edge, uint32_t *boxes, uint32_t *waiting,
+                       uint32_t *cut);
+
+/* The same of a convex polygon: 1 to 6 of the chuck, 1 to 6 of the work, 1 to 5 of the polygon. */
+uint32_t jorghipa_pair_convex(const double *chuck, size_t chuck_count, const double *work, size_t work_count,
+                              const double *convex, size_t convex_count, uint32_t *winner, double *distance,
+                              double *witness_z, double *witness_radius, uint32_t *edge, uint32_t *boxes,
+                              uint32_t *waiting, uint32_t *cut);
+
 #ifdef __cplusplus
 }
 #endif

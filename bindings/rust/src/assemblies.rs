@@ -2,7 +2,7 @@
 
 use crate::{Aabb, Cylinder, Point, Refusal, Sphere, raw, refusal::accepted};
 
-/// A body of an assembly.
+/// A body beside a section: one of an assembly, or beside chuck and work.
 #[derive(Clone, Copy, Debug, PartialEq)]
 pub enum Body {
     Sphere(Sphere),
@@ -12,7 +12,7 @@ pub enum Body {
 
 impl Body {
     /// Its kind in C, and its seven numbers, the last of them 0 where it has fewer.
-    fn given(self) -> (u32, [f64; 7]) {
+    pub fn given(self) -> (u32, [f64; 7]) {
         match self {
             Body::Sphere(Sphere { center: Point { x, y, z }, radius }) => (2, [x, y, z, radius, 0.0, 0.0, 0.0]),
             Body::Box(Aabb { z0, z1, r0, r1 }) => (3, [z0, z1, r0, r1, 0.0, 0.0, 0.0]),

@@ -4,6 +4,7 @@ mod assemblies;
 mod builders;
 mod cylinders;
 mod distances;
+mod pairs;
 pub mod raw;
 #[cfg(feature = "records")]
 mod records;
@@ -14,6 +15,7 @@ pub use assemblies::*;
 pub use builders::*;
 pub use cylinders::*;
 pub use distances::*;
+pub use pairs::*;
 #[cfg(feature = "records")]
 pub use records::*;
 pub use refusal::Refusal;

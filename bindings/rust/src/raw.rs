@@ -50,6 +50,16 @@ unsafe extern "C" {
         section: *const f64, section_count: usize, kinds: *const u32, count: usize, numbers: *const f64,
         numbers_count: usize, clearance: f64, hit: *mut u32,
     ) -> u32;
+    pub fn jorghipa_pair(
+        chuck: *const f64, chuck_count: usize, work: *const f64, work_count: usize, kind: u32, numbers: *const f64,
+        numbers_count: usize, winner: *mut u32, distance: *mut f64, witness_z: *mut f64, witness_radius: *mut f64,
+        edge: *mut u32, boxes: *mut u32, waiting: *mut u32, cut: *mut u32,
+    ) -> u32;
+    pub fn jorghipa_pair_convex(
+        chuck: *const f64, chuck_count: usize, work: *const f64, work_count: usize, convex: *const f64,
+        convex_count: usize, winner: *mut u32, distance: *mut f64, witness_z: *mut f64, witness_radius: *mut f64,
+        edge: *mut u32, boxes: *mut u32, waiting: *mut u32, cut: *mut u32,
+    ) -> u32;
     pub fn jorghipa_sqrt(x: f64) -> f64;
     pub fn jorghipa_hypot(a: f64, b: f64) -> f64;
 }

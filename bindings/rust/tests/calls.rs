@@ -69,6 +69,43 @@ fn settings() {
 }
 
 #[test]
+fn pairs() {
+    let away = [-100.0, 10.0, -80.0, 10.0, -80.0, 0.0, -100.0, 0.0];
+    let ball = Body::Sphere(Sphere { center: at(0.0, 0.0, 30.0), radius: 4.0 });
+    let near = |section, work, boxes| Nearer {
+        section,
+        work,
+        hit: CylinderHit { hit: hit(6.0, 20.0, 0.0, 1), boxes, waiting: 0, cut: false },
+    };
+    assert_eq!(pair(&S, &away, ball), Ok(near(&S, false, 0)));
+    assert_eq!(pair(&away, &S, ball), Ok(near(&S, true, 0)));
+    // An equal distance: the chuck wins, and it is its slice that comes back.
+    let same = S;
+    let tie = pair(&S, &same, ball).unwrap();
+    assert_eq!((tie.work, tie.section.as_ptr()), (false, S.as_ptr()));
+    assert_eq!(pair(&away, &S, Body::Box(bounds(26.0, 30.0, 0.0, 5.0))), Ok(near(&S, true, 1)));
+    let corners = [26.0, 0.0, 30.0, 0.0, 30.0, 5.0, 26.0, 5.0];
+    assert_eq!(pair_convex(&away, &S, &corners), Ok(near(&S, true, 0)));
+    // One section on the axis, then both: +infinity, and the chuck's first vertex.
+    let (axis, other) = ([0.0, 0.0, 20.0, 0.0, 0.0, 0.0], [5.0, 0.0, 20.0, 0.0, 0.0, 0.0]);
+    assert_eq!(pair(&axis, &S, ball).map(|nearer| nearer.work), Ok(true));
+    assert_eq!(
+        pair(&other, &axis, ball).map(|nearer| (nearer.work, nearer.hit.hit)),
+        Ok((false, hit(f64::INFINITY, 5.0, 0.0, 0)))
+    );
+    // The chuck's 6, the work's 1, the body's 9.
+    let low = [0.0, 10.0, 20.0, 10.0, 20.0, -1.0];
+    let bad = Body::Sphere(Sphere { center: at(0.0, 0.0, 30.0), radius: -1.0 });
+    assert_eq!(pair(&low, &S[..7], bad), Err(Refusal(6)));
+    assert_eq!(pair(&S, &S[..7], bad), Err(Refusal(1)));
+    assert_eq!(pair(&S, &low, bad), Err(Refusal(6)));
+    assert_eq!(pair(&S, &S, bad), Err(Refusal(9)));
+    assert_eq!(pair_convex(&S, &low, &S[..7]), Err(Refusal(6)));
+    assert_eq!(pair_convex(&S, &S, &S[..7]), Err(Refusal(1)));
+    assert!(pair_convex(&S, &S, &low).is_ok());
+}
+
+#[test]
 fn verdicts() {
     let ball = Sphere { center: at(0.0, 0.0, 30.0), radius: 4.0 };
     assert_eq!(verdict_sphere(&S, ball, 6.0), Ok(false));

@@ -12,7 +12,7 @@ use Rattle.profile.proofs.Refusals.Ordered.{by-first, by-rest, or-else-none}
 use Rattle.bodies.specs.Bodies.{aloneTests}
 use Rattle.bodies.specs.declared.shapes.Body.{Body}
 use Rattle.assemblies.specs.Assemblies.{beforeBodies, anyHit}
-use Rattle.assemblies.proofs.Taken.{own-numbered}
+use Rattle.bodies.proofs.Alone.{own-numbered}
 use Rattle.assemblies.proofs.Answer.{by-body}
 
 module _ (b : Body) (behind : List Body) {n : ℕ} (e : n ≡ refusal (aloneTests b)) (k : n ≡ 0 → ⊥) where

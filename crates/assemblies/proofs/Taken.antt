@@ -8,20 +8,15 @@ use lib.Dec.{T, nltb→le}
 use borrow.Author.Tests.{ne-eqb}
 use lib.Ieee.{Float}
 use lib.ListN.{take}
-use Rattle.profile.specs.Refusals.{Test, refusal, anyOf, axisTests}
+use Rattle.profile.specs.Refusals.{Test, refusal, axisTests}
 use Rattle.profile.specs.Steps.{numbered, orElse}
 use Rattle.profile.proofs.Each.{All, nil, cons, all-map, all-first, all-rest, all-append}
 use Rattle.profile.proofs.Refusals.Ordered.{Passes, refusal-append}
 use Rattle.profile.proofs.Refusals.Passed.{Taken, taken, passed}
 use Rattle.bodies.specs.Bodies.{aloneTests, bodyTests, bodyNumbers, bodyOwn}
 use Rattle.bodies.specs.declared.shapes.Body.{Body}
-use Rattle.bodies.specs.declared.shapes.Body.the-variants.{Sphere, Box, Cylinder}
+use Rattle.bodies.proofs.Alone.{own-numbered, alone-taken}
 use Rattle.assemblies.specs.Assemblies.{beforeBodies, countTests, hitTests}
-
-pub own-numbered : (b : Body) → T (numbered (bodyOwn b))
-own-numbered (Sphere b) = tt
-own-numbered (Box x) = tt
-own-numbered (Cylinder c) = tt
 
 -- two numbers in turn are 0
 none-then-none : (n m : ℕ) → orElse n m ≡ 0 → (n ≡ 0) × (m ≡ 0)
@@ -37,11 +32,6 @@ each-alone [] e = nil
 each-alone (b ∷ l) e =
     let p = in-turn (aloneTests b) (flatMap aloneTests l) (own-numbered b) e in
     cons (p .0) (each-alone l (p .1))
-
--- a body alone that passes: its numbers, and its own tests
-alone-taken : (b : Body) → refusal (aloneTests b) ≡ 0 → Taken 3 256 [] (bodyNumbers b) (bodyOwn b)
-unfolding refusal anyOf
-alone-taken b e = taken 3 256 [] (bodyNumbers b) (bodyOwn b) (own-numbered b) e
 
 module _ (s : List Float) (count : ℕ) (clearance : Float) where
   before-taken : refusal (beforeBodies s count clearance) ≡ 0

@@ -1,12 +1,27 @@
--- A body alone: the tests of its numbers, then its own. By the law of one list of tests after the other.
+-- A body alone: the tests of its numbers, then its own; what it was given where it passes them. By the law of one list of
+-- tests after the other.
 use Prim.Native.Nat.{ℕ}
-use mathlib.Core.List.{List, _++_}
+use mathlib.Core.List.{List, [], _++_}
 use mathlib.Core.Path.{_≡_}
 use lib.Dec.{T}
-use Rattle.profile.specs.Refusals.{Test, refusal}
+use Rattle.profile.specs.Refusals.{Test, refusal, anyOf}
 use Rattle.profile.specs.Steps.{numbered, orElse}
 use Rattle.profile.proofs.Refusals.Ordered.{refusal-append}
+use Rattle.profile.proofs.Refusals.Passed.{Taken, taken}
+use Rattle.bodies.specs.Bodies.{aloneTests, bodyNumbers, bodyOwn}
+use Rattle.bodies.specs.declared.shapes.Body.{Body}
+use Rattle.bodies.specs.declared.shapes.Body.the-variants.{Sphere, Box, Cylinder}
 
 pub then-own : (a b : List Test) → T (numbered a) → {r own : ℕ} → r ≡ orElse (refusal a) own → own ≡ refusal b
     → r ≡ refusal (a ++ b)
 then-own a b h e f = rw (e, f, refusal-append a b h)
+
+pub own-numbered : (b : Body) → T (numbered (bodyOwn b))
+own-numbered (Sphere b) = tt
+own-numbered (Box x) = tt
+own-numbered (Cylinder c) = tt
+
+-- a body alone that passes: its numbers, and its own tests
+pub alone-taken : (b : Body) → refusal (aloneTests b) ≡ 0 → Taken 3 256 [] (bodyNumbers b) (bodyOwn b)
+unfolding refusal anyOf
+alone-taken b e = taken 3 256 [] (bodyNumbers b) (bodyOwn b) (own-numbered b) e

@@ -1,4 +1,6 @@
--- What an answer's case gives, an equal answer gives; bodies as they are read, and an assembly of them.
+-- What an answer's case gives, an equal answer gives; bodies as they are read, and an assembly of them; what a pair
+-- gives fits its places.
 pub mod Same
 pub mod BodiesRead
 pub mod AssemblyRead
+pub mod Pairs

@@ -22,7 +22,7 @@ fn mark_of(cut: bool) -> u32
 }
 
 // Puts the counts and the mark of a hit into the lent places.
-fn give_counts(h: CountedHit, boxes: &mut u32, waiting: &mut u32, cut: &mut u32)
+pub fn give_counts(h: CountedHit, boxes: &mut u32, waiting: &mut u32, cut: &mut u32)
     requires { ⌜ (h .boxes ≤ 4294967295) × (h .waiting ≤ 4294967295) ⌝ }
     ensures { λ r. ⌜ counts (now (boxes .exit)) (now (waiting .exit)) (now (cut .exit)) ≡ hitCounts h ⌝ }
 {

@@ -6,6 +6,7 @@ mod cylinder;
 mod distances;
 mod lists;
 mod numbers;
+mod pair;
 mod verdict;
 
 pub use assembly::jorghipa_any_hit;
@@ -18,6 +19,8 @@ pub use distances::jorghipa_point;
 pub use distances::jorghipa_sphere;
 pub use numbers::jorghipa_hypot;
 pub use numbers::jorghipa_sqrt;
+pub use pair::jorghipa_pair;
+pub use pair::jorghipa_pair_convex;
 pub use verdict::jorghipa_verdict_box;
 pub use verdict::jorghipa_verdict_convex;
 pub use verdict::jorghipa_verdict_cylinder;

@@ -8,6 +8,7 @@ pub mod judge;
 #[cfg(feature = "mpfr")]
 pub mod mpfr;
 pub mod near;
+pub mod pairs;
 pub mod port;
 pub mod query;
 pub mod root_cases;

@@ -3,8 +3,10 @@
 //! Each call has one list of tests, written in the order in which it tests: the first that is true gives the number.
 
 mod builder;
+mod pairs;
 
 pub use builder::{Built, build_polygon, build_section};
+pub use pairs::{pair_box, pair_convex, pair_cylinder, pair_sphere};
 
 /// Largest magnitude of a given coordinate, bound, radius or clearance.
 pub const LIMIT: f64 = 1_048_576.0;

@@ -7,7 +7,7 @@ use borrow.Author.Needs.{needs}
 use Rattle.profile.specs.Refusals.{refusal}
 use Rattle.bodies.specs.Bodies.{aloneTests}
 use Rattle.assemblies.proofs.Front.{refused-later, refused-here, refused-never}
-use Rattle.assemblies.proofs.Taken.{own-numbered}
+use Rattle.bodies.proofs.Alone.{own-numbered}
 use Rattle.assemblies.proofs.refusal.bodies_refusal.Statement.{statement}
 use Rattle.assemblies.proofs.refusal.bodies_refusal.Tie as tie
 

@@ -31,4 +31,15 @@ returns-3 : tie.Need-returns-3
 returns-3 c = rw (c .before .before .body3 .given .1) (c .cylinder-alone .ensures)
 
 pub body-alone-spec : {M : Type 1} → statement M
-body-alone-spec = tie.close (tie.spec enum-known-body sphere-alone-requires enum-known-body-2 box-alone-requires enum-known-body-3 cylinder-alone-requires returns returns-2 returns-3)
+body-alone-spec =
+    tie.close
+    (tie.spec
+    enum-known-body
+    sphere-alone-requires
+    enum-known-body-2
+    box-alone-requires
+    enum-known-body-3
+    cylinder-alone-requires
+    returns
+    returns-2
+    returns-3)

@@ -1,0 +1,3 @@
+-- 02's chuck and work together.
+pub mod Pairs
+pub mod Steps
