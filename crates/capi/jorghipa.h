@@ -87,6 +87,23 @@ uint32_t jorghipa_cylinder(const double *section, size_t section_count, double a
                            double *distance, double *witness_z, double *witness_radius, uint32_t *edge,
                            uint32_t *boxes, uint32_t *waiting, uint32_t *cut);
 
+/* The same distances with the witness in the machine's axes. With h = hypot(x, y) of the body's middle - a point's or a
+ * sphere's own x and y, of a cylinder (ax + bx) / 2 and (ay + by) / 2 - and the witness's z and radius, it is
+ *    (radius x / h, radius y / h, z), multiplied first, and (radius, 0, z) where h is 0;
+ * a radius below 0 counts as 0. A cylinder is measured at the finest settings. Numbers of the plain call without 18. */
+uint32_t jorghipa_lifted_point(const double *section, size_t section_count, double x, double y, double z,
+                               double *distance, double *witness_x, double *witness_y, double *witness_z,
+                               uint32_t *edge);
+
+uint32_t jorghipa_lifted_sphere(const double *section, size_t section_count, double x, double y, double z,
+                                double radius, double *distance, double *witness_x, double *witness_y,
+                                double *witness_z, uint32_t *edge);
+
+uint32_t jorghipa_lifted_cylinder(const double *section, size_t section_count, double ax, double ay, double az,
+                                  double bx, double by, double bz, double radius, double *distance, double *witness_x,
+                                  double *witness_y, double *witness_z, uint32_t *edge, uint32_t *boxes,
+                                  uint32_t *waiting, uint32_t *cut);
+
 /* *collision is 1 exactly when the judged distance + 1e-9 < clearance, else 0. Numbers of the query without 18; 4 and 5
  * for the clearance. A cylinder is measured at the finest settings. What is judged is the distance itself; of a cylinder,
  * whose axis may lean a little, the distance less half of

@@ -30,6 +30,19 @@ unsafe extern "C" {
         tolerance: f64, most: u32, intervals: u32, distance: *mut f64, witness_z: *mut f64, witness_radius: *mut f64,
         edge: *mut u32, boxes: *mut u32, waiting: *mut u32, cut: *mut u32,
     ) -> u32;
+    pub fn jorghipa_lifted_point(
+        section: *const f64, section_count: usize, x: f64, y: f64, z: f64,
+        distance: *mut f64, witness_x: *mut f64, witness_y: *mut f64, witness_z: *mut f64, edge: *mut u32,
+    ) -> u32;
+    pub fn jorghipa_lifted_sphere(
+        section: *const f64, section_count: usize, x: f64, y: f64, z: f64, radius: f64,
+        distance: *mut f64, witness_x: *mut f64, witness_y: *mut f64, witness_z: *mut f64, edge: *mut u32,
+    ) -> u32;
+    pub fn jorghipa_lifted_cylinder(
+        section: *const f64, section_count: usize, ax: f64, ay: f64, az: f64, bx: f64, by: f64, bz: f64, radius: f64,
+        distance: *mut f64, witness_x: *mut f64, witness_y: *mut f64, witness_z: *mut f64, edge: *mut u32,
+        boxes: *mut u32, waiting: *mut u32, cut: *mut u32,
+    ) -> u32;
     pub fn jorghipa_verdict_sphere(
         section: *const f64, section_count: usize, x: f64, y: f64, z: f64, radius: f64, clearance: f64,
         collision: *mut u32,

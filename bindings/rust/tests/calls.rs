@@ -46,6 +46,38 @@ fn readings() {
     assert_eq!((sqrt(2.25), hypot(3.0, 4.0)), (1.5, 5.0));
 }
 
+/// By the rule, from the readings above; and two whose middle tells x from y, and a mean from one end.
+#[test]
+fn lifted() {
+    let hit = |distance, witness, edge| LiftedHit { distance, witness, edge };
+    assert_eq!(lifted_point(&S, at(3.0, 4.0, 30.0)), Ok(hit(10.0, at(3.0, 4.0, 20.0), 1)));
+    assert_eq!(lifted_point(&S, at(-0.0, 0.0, 10.0)), Ok(hit(-10.0, at(10.0, 0.0, 10.0), 0)));
+    let ball = Sphere { center: at(-6.0, 8.0, 30.0), radius: 4.0 };
+    assert_eq!(lifted_sphere(&S, ball), Ok(hit(6.0, at(-6.0, 8.0, 20.0), 0)));
+    // Multiplied first: 1 / 5 times 3 were 0.6000000000000001.
+    let thin = [0.0, 1.0, 20.0, 1.0, 20.0, 0.0, 0.0, 0.0];
+    assert_eq!(lifted_point(&thin, at(3.0, 4.0, 10.0)), Ok(hit(4.0, at(0.6, 0.8, 10.0), 0)));
+    // A radius below 0 counts as 0.
+    let tip = [0.0, -1e-9, 10.0, 10.0, 20.0, 0.0];
+    assert_eq!(lifted_point(&tip, at(-3.0, 4.0, -30.0)).map(|hit| hit.witness), Ok(at(0.0, 0.0, 0.0)));
+    let line = |a, b| lifted_cylinder(&S, bar(a, b, 0.0));
+    let one_box = |hit| LiftedCylinderHit { hit, boxes: 1, waiting: 0, cut: false };
+    let across = line(at(0.0, 30.0, 10.0), at(80.0, 30.0, 10.0));
+    assert_eq!(across, Ok(one_box(hit(20.0, at(8.0, 6.0, 10.0), 0))));
+    let along_y = line(at(-30.0, 80.0, 10.0), at(-30.0, 0.0, 10.0));
+    assert_eq!(along_y, Ok(one_box(hit(20.0, at(-6.0, 8.0, 10.0), 0))));
+    let walked = lifted_cylinder(&S, bar(at(12.0, 0.0, 10.0), at(30.0, 0.0, 10.0), 2.0)).unwrap();
+    assert_eq!(walked.hit, hit(2.0, at(10.0, 0.0, 8.0), 0));
+    assert_eq!((walked.boxes, walked.waiting, walked.cut), (8192, 29, true));
+    let low = with_radius(-1.0);
+    assert_eq!(lifted_point(&S[..7], at(0.0, 0.0, 0.0)), Err(Refusal(1)));
+    assert_eq!(lifted_point(&low, at(0.0, f64::NAN, 0.0)), Err(Refusal(4)));
+    assert_eq!(lifted_sphere(&low, Sphere { radius: -1.0, ..ball }), Err(Refusal(6)));
+    assert_eq!(lifted_sphere(&S, Sphere { radius: -1.0, ..ball }), Err(Refusal(9)));
+    let skew = |radius| lifted_cylinder(&S, bar(at(0.0, 0.0, 0.0), at(1.0, 0.0, 1.0), radius));
+    assert_eq!((skew(-1.0), skew(1.0)), (Err(Refusal(9)), Err(Refusal(11))));
+}
+
 #[test]
 fn settings() {
     let (along, across) =

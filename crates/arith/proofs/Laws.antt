@@ -20,6 +20,8 @@ pub mod RootBounded
 pub mod Shift
 pub mod Hypot
 pub mod HypotKey
+pub mod Leg
+pub mod Towards
 pub mod HypotZero
 pub mod HypotReach
 pub mod Share

@@ -19,7 +19,7 @@ use Rattle.bodies.specs.Bodies.{aloneTests, bodyDistance, boxesOnly}
 use Rattle.bodies.specs.declared.shapes.Body.{Body}
 use Rattle.pairs.specs.Pairs.{Won, nearer, pairTests, pairAnswer, pairConvexAnswer, PairPromised, PairConvexPromised}
 use Rattle.pairs.proofs.Counts.{Small, pair-small, pair-convex-small}
-use Rattle.capi.specs.Interface.{Gives, Measures, CylinderPlaces, cylinderPlaces, mark}
+use Rattle.capi.specs.Interface.{Gives, Measures, Places, CylinderPlaces, cylinderPlaces, mark}
 use Rattle.capi.specs.Lists.{orElseReply}
 use Rattle.capi.specs.Pairs.{PairPlaces, FitsPlaces, WonFits, oneBodyTests, pairPlaces, wonPlaces}
 
@@ -56,7 +56,7 @@ pair-convex-fits chuck work c A =
     (pair-convex-small chuck work (convexDistance c chuck) (convexDistance c work)) A
 
 -- a hit in the lent places, and the winner's place
-pub won-given : {a : Reply Won} {w : Won} {n k : ℕ} {p q : CylinderPlaces} {held : PairPlaces} → a ≡ value w
+pub won-given : {a : Reply Won} {w : Won} {n k : ℕ} {p q : CylinderPlaces Places} {held : PairPlaces} → a ≡ value w
     → Gives cylinderPlaces (value (w .counted)) n p q → k ≡ mark (w .work) → Gives wonPlaces a n held (pairPlaces k q)
 won-given e g f = record { returned = rw e (g .returned); lent = rw (e, g .lent, f) }
 

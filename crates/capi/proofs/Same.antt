@@ -13,8 +13,7 @@ use Rattle.settings.specs.declared.shapes.Settings.{Settings}
 use Rattle.section.specs.Demand.{FewEdges}
 use Rattle.section.proofs.Demand.Queries.{bounded-few}
 use Rattle.cylinders.specs.Promised.{Promised}
-use Rattle.capi.specs.Interface.{Gives, Measures, Places, Counts, CylinderPlaces}
-use Rattle.capi.specs.Interface.{hitPlaces, hitCounts, cylinderPlaces, both}
+use Rattle.capi.specs.Interface.{Gives, Measures, Counts, CylinderPlaces, hitCounts, both}
 
 module _ {A B : Type 0} {fields : A → B} {a b : Reply A} {n : ℕ} {held end : B} where
   pub gives : a ≡ b → Gives fields a n held end → Gives fields b n held end
@@ -28,19 +27,21 @@ module _ {A B : Type 0} {fields : A → B} {a b : Reply A} {n : ℕ} {held end :
 pub owes : {A : Type 0} {a b : Reply A} {P Q : A → Type 0} → ((x : A) → P x → Q x) → Answers a b P → OfValue Q a
 owes {a = a} {P = P} {Q = Q} f e = owed P Q f a (e .owed)
 
--- a cylinder's hit in the lent places
-pub walked : {a : Reply CountedHit} {h : CountedHit} {n : ℕ} {p q : Places} {c : Counts} {held : CylinderPlaces}
-    → a ≡ value h → Gives hitPlaces (value (h .hit)) n p q → c ≡ hitCounts h → Gives cylinderPlaces a n held (both q c)
-walked e g k = gives (sym e) (record { returned = g .returned; lent = rw (g .lent, k) })
+-- and holds of its value
+pub of-value : {A : Type 0} {a b : Reply A} {P : A → Type 0} {x : A} → Answers a b P → a ≡ value x → P x
+of-value {A} {P = P} e i = subst (λ (y : Reply A). OfValue P y) i (e .owed)
+
+-- a cylinder's hit in the lent places: those of its part without counts, and its counts
+pub walked : {A C D : Type 0} (part : A → C) (fields : C → D) (counted : A → CountedHit) {a : Reply A} {h : A} {n : ℕ} {p q : D}
+    {c : Counts} {held : CylinderPlaces D} → a ≡ value h → Gives fields (value (part h)) n p q → c ≡ hitCounts (counted h)
+    → Gives (λ (x : A). both (fields (part x)) (hitCounts (counted x))) a n held (both q c)
+walked part fields counted e g k = gives (sym e) (record { returned = g .returned; lent = rw (g .lent, k) })
 
 -- what a cylinder query promises of its counts, at settings whose most boxes are a u32: they are u32
-pub few : (s : List Float) (c : Cylinder) (t : Settings) {a : Reply CountedHit} {h : CountedHit} → t .most ≤ 4294967295 → a ≡ value h
-    → OfValue (Promised s c t) a → (h .boxes ≤ 4294967295) × (h .waiting ≤ 4294967295)
-few s c t l e p =
-    let q = subst (λ (x : Reply CountedHit). OfValue (Promised s c t) x) e p .few in
-    (le-trans (q .boxes) l, le-trans (q .waiting) (lit≤ tt))
+pub few : {s : List Float} {c : Cylinder} {t : Settings} {h : CountedHit} → t .most ≤ 4294967295 → Promised s c t h
+    → (h .boxes ≤ 4294967295) × (h .waiting ≤ 4294967295)
+few l p = (le-trans (p .few .boxes) l, le-trans (p .few .waiting) (lit≤ tt))
 
 -- and its edge is one of at most 256
-pub few-edges : (s : List Float) (c : Cylinder) (t : Settings) {a : Reply CountedHit} {h : CountedHit} → a ≡ value h
-    → OfValue (Promised s c t) a → FewEdges (h .hit)
-few-edges s c t {h = h} e p = bounded-few (h .hit) (subst (λ (x : Reply CountedHit). OfValue (Promised s c t) x) e p .bounded)
+pub few-edges : {s : List Float} {c : Cylinder} {t : Settings} (h : CountedHit) → Promised s c t h → FewEdges (h .hit)
+few-edges h p = bounded-few (h .hit) (p .bounded)

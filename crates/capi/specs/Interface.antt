@@ -66,13 +66,13 @@ counts b w c = record { boxes = b; waiting = w; cut = c }
 abbrev pub hitCounts : CountedHit → Counts
 hitCounts h = counts (h .boxes) (h .waiting) (mark (h .cut))
 
--- of a cylinder
-pub record CylinderPlaces : Type 0 where
-  pub hit : Places
+-- of a cylinder: those of its hit, and of its counts
+pub record CylinderPlaces (Hit : Type 0) : Type 0 where
+  pub hit : Hit
   pub counts : Counts
 
-abbrev pub both : Places → Counts → CylinderPlaces
+abbrev pub both : {Hit : Type 0} → Hit → Counts → CylinderPlaces Hit
 both p c = record { hit = p; counts = c }
 
-abbrev pub cylinderPlaces : CountedHit → CylinderPlaces
+abbrev pub cylinderPlaces : CountedHit → CylinderPlaces Places
 cylinderPlaces h = both (hitPlaces (h .hit)) (hitCounts h)

@@ -1,4 +1,5 @@
 -- What the C functions return and leave in the places that they are lent; bodies as C gives them.
 pub mod Interface
+pub mod Lifting
 pub mod Lists
 pub mod Pairs

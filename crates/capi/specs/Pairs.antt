@@ -11,14 +11,14 @@ use Rattle.profile.specs.Replies.{Reply}
 use Rattle.section.specs.Demand.{FewEdges}
 use Rattle.walk.specs.declared.shapes.CountedHit.{CountedHit}
 use Rattle.pairs.specs.Pairs.{Won, pairAnswer}
-use Rattle.capi.specs.Interface.{CylinderPlaces, cylinderPlaces, mark}
+use Rattle.capi.specs.Interface.{Places, CylinderPlaces, cylinderPlaces, mark}
 use Rattle.capi.specs.Lists.{otherKind, bodyAt, orElseReply}
 
 pub record PairPlaces : Type 0 where
   pub winner : ℕ
-  pub counted : CylinderPlaces
+  pub counted : CylinderPlaces Places
 
-abbrev pub pairPlaces : ℕ → CylinderPlaces → PairPlaces
+abbrev pub pairPlaces : ℕ → CylinderPlaces Places → PairPlaces
 pairPlaces winner counted = record { winner = winner; counted = counted }
 
 abbrev pub wonPlaces : Won → PairPlaces

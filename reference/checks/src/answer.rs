@@ -1,5 +1,6 @@
 //! An answer, and its line in the fixed list.
 
+use crate::lifted::Lifted;
 use crate::query::input_bits;
 use edges::Hit;
 
@@ -24,6 +25,8 @@ pub enum Answer {
     Walked(Hit, [u32; 3]),
     /// True is a collision.
     Verdict(bool),
+    /// A hit with its witness in the machine's axes; of a cylinder the counts too.
+    Lifted(Lifted, Option<[u32; 3]>),
 }
 
 /// Zeros of both signs are one value, and so is every NaN.
@@ -39,6 +42,10 @@ fn same_hit(a: &Hit, b: &Hit) -> bool {
     all_same(&floats(a), &floats(b)) && a.edge == b.edge
 }
 
+fn same_lifted(a: &Lifted, b: &Lifted) -> bool {
+    same(a.distance, b.distance) && all_same(&a.witness, &b.witness) && a.edge == b.edge
+}
+
 /// Distance, witness z and witness radius.
 pub fn floats(hit: &Hit) -> [f64; 3] {
     [hit.distance, hit.witness.0, hit.witness.1]
@@ -51,11 +58,11 @@ impl Answer {
 
     /// Whether a piece waited: a walk, not one box.
     pub fn walked(&self) -> bool {
-        matches!(self, Answer::Walked(_, [_, waiting, _]) if *waiting > 0)
+        matches!(self, Answer::Walked(_, [_, waiting, _]) | Answer::Lifted(_, Some([_, waiting, _])) if *waiting > 0)
     }
 
     pub fn cut(&self) -> bool {
-        matches!(self, Answer::Walked(_, [_, _, 1]))
+        matches!(self, Answer::Walked(_, [_, _, 1]) | Answer::Lifted(_, Some([_, _, 1])))
     }
 
     pub fn same(&self, other: &Answer) -> bool {
@@ -65,6 +72,7 @@ impl Answer {
             (Answer::Hit(a), Answer::Hit(b)) => same_hit(a, b),
             (Answer::Walked(a, m), Answer::Walked(b, n)) => same_hit(a, b) && m == n,
             (Answer::Verdict(a), Answer::Verdict(b)) => a == b,
+            (Answer::Lifted(a, m), Answer::Lifted(b, n)) => same_lifted(a, b) && m == n,
             (Answer::Built(m, a), Answer::Built(n, b)) => {
                 // The rest of the space must keep its very bits.
                 let rest = |space: &[f64]| space[*m..].iter().map(|x| x.to_bits()).collect::<Vec<_>>();
@@ -84,7 +92,8 @@ impl Answer {
             Answer::Hit(hit) => side(hit.distance).into(),
             Answer::Built(..) => "built".into(),
             Answer::Walked(hit, [_, _, 0]) => side(hit.distance).into(),
-            Answer::Walked(..) => "cut".into(),
+            Answer::Walked(..) | Answer::Lifted(_, Some([_, _, 1])) => "cut".into(),
+            Answer::Lifted(hit, _) => side(hit.distance).into(),
             Answer::Verdict(collision) => if *collision { "collision" } else { "clear" }.into(),
         }
     }
@@ -104,6 +113,10 @@ impl Answer {
             Answer::Built(kept, space) => format!("{kept} {}", hex(&space[..*kept])),
             Answer::Walked(hit, [boxes, waiting, cut]) => format!("{} {boxes} {waiting} {cut}", line(hit)),
             Answer::Verdict(collision) => u32::from(*collision).to_string(),
+            Answer::Lifted(hit, counts) => {
+                let counts: String = counts.iter().flatten().map(|count| format!(" {count}")).collect();
+                format!("{} {} {}{counts}", hex(&[hit.distance]), hex(&hit.witness), hit.edge)
+            }
         }
     }
 }

@@ -24,15 +24,20 @@ const LARGEST: usize = 600;
 /// The largest space of a builder that `replay` can lend.
 const SPACE: usize = 1024;
 
+/// The kinds that the list has. `replay` asks for no lifted witness.
+pub fn kinds() -> impl Iterator<Item = Kind> {
+    Kind::all().into_iter().filter(|kind| kind.lifted().is_none())
+}
+
 /// The numbers that a kind can be refused with.
 pub fn refusals(kind: Kind) -> &'static [u32] {
     match kind {
         Kind::Sqrt | Kind::Hypot => &[],
-        Kind::Point | Kind::Convex | Kind::VerdictConvex => &[1, 2, 3, 4, 5, 6],
-        Kind::Sphere | Kind::VerdictSphere => &[1, 2, 3, 4, 5, 6, 9],
+        Kind::Point | Kind::LiftedPoint | Kind::Convex | Kind::VerdictConvex => &[1, 2, 3, 4, 5, 6],
+        Kind::Sphere | Kind::LiftedSphere | Kind::VerdictSphere => &[1, 2, 3, 4, 5, 6, 9],
         Kind::Box | Kind::VerdictBox => &[1, 2, 3, 4, 5, 6, 10],
         Kind::Section | Kind::Polygon => &[1, 2, 3, 4, 5, 6, 7, 8],
-        Kind::Cylinder | Kind::VerdictCylinder => &[1, 2, 3, 4, 5, 6, 9, 11],
+        Kind::Cylinder | Kind::LiftedCylinder | Kind::VerdictCylinder => &[1, 2, 3, 4, 5, 6, 9, 11],
         Kind::SetCylinder => &[1, 2, 3, 4, 5, 6, 9, 11, 18],
     }
 }
@@ -209,7 +214,7 @@ fn cylinders() -> impl Iterator<Item = [f64; 7]> {
 /// Everything that the list holds, in order of kind.
 pub fn queries(seed: u64) -> Vec<Query> {
     let mut all = readings();
-    for kind in Kind::all() {
+    for kind in kinds() {
         for (i, threshold) in near::thresholds(kind).iter().enumerate() {
             let mut random = Random::new(seed, 1 + i as u64 + 100 * kind as u64);
             all.extend((0..NEAR).map(|_| threshold.query(&mut random)));
@@ -227,6 +232,7 @@ fn shares(kind: Kind) -> (usize, usize, usize) {
         Kind::Point | Kind::Sphere | Kind::Box | Kind::Convex | Kind::Section | Kind::Polygon => (RANDOM, 1, 0),
         Kind::Cylinder | Kind::SetCylinder => (RANDOM, 0, CUT),
         Kind::VerdictSphere | Kind::VerdictBox | Kind::VerdictCylinder | Kind::VerdictConvex => (VERDICTS, 0, 0),
+        Kind::LiftedPoint | Kind::LiftedSphere | Kind::LiftedCylinder => (0, 0, 0),
     }
 }
 

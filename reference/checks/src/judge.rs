@@ -1,9 +1,10 @@
 //! The expected answer: numbers from the table, all else from the published Rust with the exact hypot. The edge of a hit comes
 //! from document 01's steps, whose distance and witness have to be the Rust's; a cylinder from the second implementation of the
 //! walk, which at the finest settings has to agree with the Rust. A cylinder's verdict is the Rust's distance with
-//! request (v)'s rule beside it.
+//! request (v)'s rule beside it, a lifted witness the Rust's pair laid out by request (x)'s.
 
 use crate::answer::Answer;
+use crate::lifted;
 use crate::query::{FILL, Kind, Query};
 use crate::walk::{self, Walked};
 use edges::Hit;
@@ -33,13 +34,13 @@ fn accepted(query: &Query) -> Result<(), u32> {
     let list = |i: usize| query.lists[i].as_slice();
     match query.kind {
         Kind::Sqrt | Kind::Hypot => Ok(()),
-        Kind::Point => table::point(list(0), query.array(), &[]),
-        Kind::Sphere => table::sphere(list(0), query.array(), &[]),
+        Kind::Point | Kind::LiftedPoint => table::point(list(0), query.array(), &[]),
+        Kind::Sphere | Kind::LiftedSphere => table::sphere(list(0), query.array(), &[]),
         Kind::Box => table::aabb(list(0), query.array(), &[]),
         Kind::Convex => table::convex(list(0), list(1), &[]),
         Kind::Section => table::build_section(list(0), &space(query)).map(|_| ()),
         Kind::Polygon => table::build_polygon(list(0), &space(query)).map(|_| ()),
-        Kind::Cylinder => table::cylinder(list(0), query.array(), table::FINEST, &[]),
+        Kind::Cylinder | Kind::LiftedCylinder => table::cylinder(list(0), query.array(), table::FINEST, &[]),
         Kind::VerdictSphere => table::sphere(list(0), query.array(), &query.numbers[4..]),
         Kind::VerdictBox => table::aabb(list(0), query.array(), &query.numbers[4..]),
         Kind::VerdictCylinder => table::cylinder(list(0), query.array(), table::FINEST, &query.numbers[7..]),
@@ -64,7 +65,18 @@ fn answer(query: &Query) -> Option<Answer> {
         Kind::VerdictCylinder => verdict(query, rust_cylinder(query)?.0.0),
         Kind::VerdictConvex => verdict(query, convex(query)?.distance),
         Kind::SetCylinder => cylinder(query, query.settings()),
+        Kind::LiftedPoint | Kind::LiftedSphere | Kind::LiftedCylinder => lifted(query),
     }
+}
+
+/// The plain answer with its witness lifted.
+fn lifted(query: &Query) -> Option<Answer> {
+    let plain = Query::new(query.kind.lifted()?, &query.lists, &query.numbers);
+    Some(match answer(&plain)? {
+        Answer::Hit(hit) => Answer::Lifted(lifted::of(query, hit), None),
+        Answer::Walked(hit, counts) => Answer::Lifted(lifted::of(query, hit), Some(counts)),
+        other => panic!("{} to {}", other.line(), query.line()),
+    })
 }
 
 fn section(query: &Query) -> Vec<(f64, f64)> {
@@ -178,10 +190,10 @@ fn rust_refuses(query: &Query, number: u32) -> bool {
     match query.kind {
         Kind::Section => ![6, 8].contains(&number) || built_by_rust(query, RevolvedSolid::try_from_section).is_none(),
         Kind::Polygon => number != 8 || built_by_rust(query, try_from_raised).is_none(),
-        Kind::Sphere => number != 9 || rust_sphere(query).is_none(),
+        Kind::Sphere | Kind::LiftedSphere => number != 9 || rust_sphere(query).is_none(),
         Kind::Box => number != 10 || rust_aabb(query).is_none(),
-        Kind::Cylinder | Kind::SetCylinder => number != 11 || rust_cylinder(query).is_none(),
-        Kind::Sqrt | Kind::Hypot | Kind::Point | Kind::Convex => true,
+        Kind::Cylinder | Kind::SetCylinder | Kind::LiftedCylinder => number != 11 || rust_cylinder(query).is_none(),
+        Kind::Sqrt | Kind::Hypot | Kind::Point | Kind::LiftedPoint | Kind::Convex => true,
         Kind::VerdictSphere | Kind::VerdictBox | Kind::VerdictCylinder | Kind::VerdictConvex => true,
     }
 }

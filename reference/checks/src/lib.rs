@@ -5,6 +5,7 @@ pub mod assembly;
 pub mod fixed;
 pub mod generate;
 pub mod judge;
+pub mod lifted;
 #[cfg(feature = "mpfr")]
 pub mod mpfr;
 pub mod near;

@@ -3,8 +3,9 @@
 
 use crate::answer::{Answer, floats};
 use crate::judge;
+use crate::lifted::Lifted;
 use crate::query::{Kind, Query};
-use jorghipa::{Aabb, Cylinder, CylinderHit, Hit, Point, Refusal, Settings, Sphere, raw};
+use jorghipa::{Aabb, Cylinder, CylinderHit, Hit, LiftedCylinderHit, LiftedHit, Point, Refusal, Settings, Sphere, raw};
 
 pub fn answer(query: &Query) -> Answer {
     let answer = flat(query);
@@ -39,6 +40,9 @@ fn flat(query: &Query) -> Answer {
             let table::Settings { tolerance, most, intervals } = query.settings();
             cylinder(query, Settings { tolerance, most, intervals })
         }
+        Kind::LiftedPoint => lifted_point(query),
+        Kind::LiftedSphere => lifted_sphere(query),
+        Kind::LiftedCylinder => lifted_cylinder(query),
     }
 }
 
@@ -48,11 +52,11 @@ fn lent(query: &Query, i: usize) -> (*const f64, usize) {
 }
 
 /// What the places of a call that is to be refused hold before it.
-const FLOATS: [f64; 3] = [1.25, -2.5, 3.75];
+const FLOATS: [f64; 4] = [1.25, -2.5, 3.75, -4.5];
 const COUNTS: [u32; 4] = [76, 77, 78, 79];
 
 /// The answer; of a refused call only if `again`, the C function once more, leaves its places as they were.
-fn told(result: Result<Answer, Refusal>, again: impl FnOnce(&mut [f64; 3], &mut [u32; 4]) -> u32) -> Answer {
+fn told(result: Result<Answer, Refusal>, again: impl FnOnce(&mut [f64; 4], &mut [u32; 4]) -> u32) -> Answer {
     result.unwrap_or_else(|Refusal(number)| {
         let (mut floats, mut counts) = (FLOATS, COUNTS);
         let same = again(&mut floats, &mut counts) == number;
@@ -75,6 +79,19 @@ fn hit(hit: Hit) -> Answer {
 
 fn walked(walked: CylinderHit) -> Answer {
     Answer::Walked(with_edge(walked.hit), [walked.boxes, walked.waiting, u32::from(walked.cut)])
+}
+
+fn with_axes(hit: LiftedHit) -> Lifted {
+    let LiftedHit { distance, witness: Point { x, y, z }, edge } = hit;
+    Lifted { distance, witness: [x, y, z], edge }
+}
+
+fn lifted(hit: LiftedHit) -> Answer {
+    Answer::Lifted(with_axes(hit), None)
+}
+
+fn lifted_walked(walked: LiftedCylinderHit) -> Answer {
+    Answer::Lifted(with_axes(walked.hit), Some([walked.boxes, walked.waiting, u32::from(walked.cut)]))
 }
 
 fn place(query: &Query) -> Point {
@@ -100,28 +117,28 @@ fn bar(query: &Query) -> Cylinder {
 fn point(query: &Query) -> Answer {
     let ((list, count), [x, y, z]) = (lent(query, 0), query.array());
     // SAFETY (here and below): the lists are valid for their counts, and the places are distinct.
-    told(jorghipa::point(&query.lists[0], place(query)).map(hit), |[d, wz, wr], [edge, ..]| unsafe {
+    told(jorghipa::point(&query.lists[0], place(query)).map(hit), |[d, wz, wr, ..], [edge, ..]| unsafe {
         raw::jorghipa_point(list, count, x, y, z, d, wz, wr, edge)
     })
 }
 
 fn sphere(query: &Query) -> Answer {
     let ((list, count), [x, y, z, radius]) = (lent(query, 0), query.array());
-    told(jorghipa::sphere(&query.lists[0], ball(query)).map(hit), |[d, wz, wr], [edge, ..]| unsafe {
+    told(jorghipa::sphere(&query.lists[0], ball(query)).map(hit), |[d, wz, wr, ..], [edge, ..]| unsafe {
         raw::jorghipa_sphere(list, count, x, y, z, radius, d, wz, wr, edge)
     })
 }
 
 fn aabb(query: &Query) -> Answer {
     let ((list, count), [z0, z1, r0, r1]) = (lent(query, 0), query.array());
-    told(jorghipa::aabb(&query.lists[0], bounds(query)).map(hit), |[d, wz, wr], [edge, ..]| unsafe {
+    told(jorghipa::aabb(&query.lists[0], bounds(query)).map(hit), |[d, wz, wr, ..], [edge, ..]| unsafe {
         raw::jorghipa_box(list, count, z0, z1, r0, r1, d, wz, wr, edge)
     })
 }
 
 fn convex(query: &Query) -> Answer {
     let ((list, count), (section, section_count)) = (lent(query, 0), lent(query, 1));
-    told(jorghipa::convex(&query.lists[0], &query.lists[1]).map(hit), |[d, wz, wr], [edge, ..]| unsafe {
+    told(jorghipa::convex(&query.lists[0], &query.lists[1]).map(hit), |[d, wz, wr, ..], [edge, ..]| unsafe {
         raw::jorghipa_convex(list, count, section, section_count, d, wz, wr, edge)
     })
 }
@@ -130,10 +147,36 @@ fn cylinder(query: &Query, settings: Settings) -> Answer {
     let ((list, count), [ax, ay, az, bx, by, bz, radius]) = (lent(query, 0), query.array());
     let result = jorghipa::cylinder(&query.lists[0], bar(query), settings).map(walked);
     let Settings { tolerance, most, intervals } = settings;
-    told(result, |[d, wz, wr], [edge, boxes, waiting, cut]| unsafe {
+    told(result, |[d, wz, wr, ..], [edge, boxes, waiting, cut]| unsafe {
         raw::jorghipa_cylinder(
             list, count, ax, ay, az, bx, by, bz, radius, tolerance, most, intervals, d, wz, wr, edge, boxes, waiting,
             cut,
+        )
+    })
+}
+
+fn lifted_point(query: &Query) -> Answer {
+    let ((list, count), [x, y, z]) = (lent(query, 0), query.array());
+    let result = jorghipa::lifted_point(&query.lists[0], place(query)).map(lifted);
+    told(result, |[d, wx, wy, wz], [edge, ..]| unsafe {
+        raw::jorghipa_lifted_point(list, count, x, y, z, d, wx, wy, wz, edge)
+    })
+}
+
+fn lifted_sphere(query: &Query) -> Answer {
+    let ((list, count), [x, y, z, radius]) = (lent(query, 0), query.array());
+    let result = jorghipa::lifted_sphere(&query.lists[0], ball(query)).map(lifted);
+    told(result, |[d, wx, wy, wz], [edge, ..]| unsafe {
+        raw::jorghipa_lifted_sphere(list, count, x, y, z, radius, d, wx, wy, wz, edge)
+    })
+}
+
+fn lifted_cylinder(query: &Query) -> Answer {
+    let ((list, count), [ax, ay, az, bx, by, bz, radius]) = (lent(query, 0), query.array());
+    let result = jorghipa::lifted_cylinder(&query.lists[0], bar(query)).map(lifted_walked);
+    told(result, |[d, wx, wy, wz], [edge, boxes, waiting, cut]| unsafe {
+        raw::jorghipa_lifted_cylinder(
+            list, count, ax, ay, az, bx, by, bz, radius, d, wx, wy, wz, edge, boxes, waiting, cut,
         )
     })
 }
@@ -200,7 +243,7 @@ mod records {
             Kind::Cylinder => |section, query| jorghipa::cylinder_of(section, bar(query)).map(walked),
             Kind::Sqrt | Kind::Hypot | Kind::Convex | Kind::Section | Kind::Polygon => return None,
             Kind::VerdictSphere | Kind::VerdictBox | Kind::VerdictCylinder | Kind::VerdictConvex => return None,
-            Kind::SetCylinder => return None,
+            Kind::SetCylinder | Kind::LiftedPoint | Kind::LiftedSphere | Kind::LiftedCylinder => return None,
         };
         let list = query.lists.first().filter(|list| list.len() % 2 == 0)?;
         let section: Vec<Vertex> = list.chunks_exact(2).map(|v| Vertex { z: v[0], radius: v[1] }).collect();

@@ -30,6 +30,9 @@ kinds![
     (VerdictCylinder, "vy", 1, 8),
     (VerdictConvex, "vc", 2, 1),
     (SetCylinder, "w", 1, 10),
+    (LiftedPoint, "lp", 1, 3),
+    (LiftedSphere, "ls", 1, 4),
+    (LiftedCylinder, "ly", 1, 7),
 ];
 
 impl Kind {
@@ -47,6 +50,7 @@ impl Kind {
             Kind::Sqrt | Kind::Hypot => false,
             Kind::Point | Kind::Sphere | Kind::Box | Kind::Convex | Kind::Cylinder | Kind::SetCylinder => false,
             Kind::VerdictSphere | Kind::VerdictBox | Kind::VerdictCylinder | Kind::VerdictConvex => false,
+            Kind::LiftedPoint | Kind::LiftedSphere | Kind::LiftedCylinder => false,
         }
     }
 
@@ -59,6 +63,19 @@ impl Kind {
             Kind::VerdictConvex => Some(Kind::Convex),
             Kind::Sqrt | Kind::Hypot | Kind::Section | Kind::Polygon => None,
             Kind::Point | Kind::Sphere | Kind::Box | Kind::Convex | Kind::Cylinder | Kind::SetCylinder => None,
+            Kind::LiftedPoint | Kind::LiftedSphere | Kind::LiftedCylinder => None,
+        }
+    }
+
+    /// The query whose witness is lifted.
+    pub fn lifted(self) -> Option<Kind> {
+        match self {
+            Kind::LiftedPoint => Some(Kind::Point),
+            Kind::LiftedSphere => Some(Kind::Sphere),
+            Kind::LiftedCylinder => Some(Kind::Cylinder),
+            Kind::Sqrt | Kind::Hypot | Kind::Section | Kind::Polygon => None,
+            Kind::Point | Kind::Sphere | Kind::Box | Kind::Convex | Kind::Cylinder | Kind::SetCylinder => None,
+            Kind::VerdictSphere | Kind::VerdictBox | Kind::VerdictCylinder | Kind::VerdictConvex => None,
         }
     }
 }

@@ -200,6 +200,37 @@ fn leaning(random: &mut Random, [x, y, z]: [f64; 3], along: bool) -> [f64; 6] {
     [x, y, z, x + length, y + random.sign(lean), z + random.sign(less)]
 }
 
+/// Middles on the axis and beside it, of both signs.
+const MIDDLES: [f64; 10] = [0.0, 0.0, -0.0, -0.0, 5e-324, -5e-324, 1e-310, -1e-310, 1e-160, -1e-9];
+
+/// The body with its middle moved onto the axis or beside it, in x or y or both, in one case of four each. `ends` are the
+/// first numbers of its ends.
+fn middled(random: &mut Random, mut body: Vec<f64>, ends: [usize; 2]) -> Vec<f64> {
+    for axis in 0..2 {
+        if random.chance(1, 4) {
+            let [a, b] = ends.map(|end| end + axis);
+            let (middle, half) = (random.pick(&MIDDLES), (body[b] - body[a]) * 0.5);
+            (body[a], body[b]) = if half == 0.0 { (middle, middle) } else { (middle - half, middle + half) };
+        }
+    }
+    body
+}
+
+pub fn lifted_point(random: &mut Random, style: Style, section: &[Vertex]) -> Vec<f64> {
+    let body = point(random, style, section);
+    middled(random, body, [0, 0])
+}
+
+pub fn lifted_sphere(random: &mut Random, style: Style, section: &[Vertex]) -> Vec<f64> {
+    let body = sphere(random, style, section);
+    middled(random, body, [0, 0])
+}
+
+pub fn lifted_cylinder(random: &mut Random, style: Style, section: &[Vertex]) -> Vec<f64> {
+    let body = cylinder(random, style, section);
+    middled(random, body, [0, 3])
+}
+
 /// A cylinder, one in eight of them made to be walked, then its settings: mostly coarse, and the edges of every range.
 pub fn set_cylinder(random: &mut Random, style: Style, section: &[Vertex]) -> Vec<f64> {
     let mut body = cylinder(random, style, section);

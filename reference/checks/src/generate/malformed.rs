@@ -117,7 +117,7 @@ fn bad_setting(random: &mut Random, query: &mut Query) {
 
 /// What each kind refuses by itself.
 fn bad_body(random: &mut Random, query: &mut Query) {
-    match query.kind {
+    match query.kind.lifted().unwrap_or(query.kind) {
         Kind::Sphere | Kind::VerdictSphere | Kind::Box | Kind::VerdictBox if random.chance(1, 4) => {
             below_axis(random, query);
         }
@@ -149,5 +149,6 @@ fn bad_body(random: &mut Random, query: &mut Query) {
         }
         Kind::Section | Kind::Polygon | Kind::Point | Kind::Convex | Kind::VerdictConvex => below_axis(random, query),
         Kind::Sqrt | Kind::Hypot => {}
+        Kind::LiftedPoint | Kind::LiftedSphere | Kind::LiftedCylinder => {}
     }
 }

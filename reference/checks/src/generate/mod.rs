@@ -138,6 +138,9 @@ fn well_formed(random: &mut Random, kind: Kind, style: Style) -> Query {
         Kind::Cylinder => beside(random, style, kind, 12, bodies::cylinder),
         Kind::VerdictCylinder => beside(random, style, kind, 256, bodies::cylinder),
         Kind::SetCylinder => beside(random, style, kind, 12, bodies::set_cylinder),
+        Kind::LiftedPoint => beside(random, style, kind, 256, bodies::lifted_point),
+        Kind::LiftedSphere => beside(random, style, kind, 256, bodies::lifted_sphere),
+        Kind::LiftedCylinder => beside(random, style, kind, 12, bodies::lifted_cylinder),
     }
 }
 

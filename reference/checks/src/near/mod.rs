@@ -4,6 +4,7 @@
 mod body;
 mod builder;
 mod cylinder;
+mod lifted;
 mod point;
 mod settings;
 
@@ -54,6 +55,7 @@ pub fn thresholds(kind: Kind) -> Vec<Threshold> {
         Kind::VerdictSphere | Kind::VerdictBox | Kind::VerdictConvex => vec![("clearance", clearance)],
         Kind::VerdictCylinder => vec![("clearance", clearance), ("clearance, leaning", leaning)],
         Kind::SetCylinder => settings::SETTINGS.to_vec(),
+        Kind::LiftedPoint | Kind::LiftedSphere | Kind::LiftedCylinder => lifted::LIFTED.to_vec(),
     };
     let all: [(&'static str, Make); 2] = [("limit 1,048,576", limit), ("section's radius -1e-9", below_axis)];
     makes.into_iter().chain(all).map(|(name, make)| Threshold { kind, name, make }).collect()
@@ -100,7 +102,7 @@ fn beside(random: &mut Random, kind: Kind, draw: fn(&mut Random, Kind) -> Query)
         let distance = match judge::expected(&body) {
             Answer::Hit(hit) | Answer::Walked(hit, _) => hit.distance,
             Answer::Refused(_) | Answer::Spoilt(_) | Answer::Split(_) => continue,
-            Answer::Root(_) | Answer::Built(..) | Answer::Verdict(_) => continue,
+            Answer::Root(_) | Answer::Built(..) | Answer::Verdict(_) | Answer::Lifted(..) => continue,
         };
         let threshold = judge::judged(&query, distance) + 1e-9;
         query.numbers[last] = random.near(threshold);

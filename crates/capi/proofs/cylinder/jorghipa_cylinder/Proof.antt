@@ -3,7 +3,9 @@ use borrow.Author.Needs.{needs}
 use native.Mathlib.Omega.{arith}
 use mathlib.Core.Path.{ap}
 use Rattle.cylinders.specs.Cylinders.{told}
-use Rattle.capi.proofs.Same.{few, few-edges, measures, walked}
+use Rattle.walk.specs.declared.shapes.CountedHit.{CountedHit}
+use Rattle.capi.specs.Interface.{hitPlaces}
+use Rattle.capi.proofs.Same.{few, few-edges, measures, of-value, walked}
 use Rattle.capi.proofs.cylinder.jorghipa_cylinder.Statement.{statement}
 use Rattle.capi.proofs.cylinder.jorghipa_cylinder.Tie as tie
 
@@ -17,12 +19,12 @@ give-counts-requires : tie.Need-give-counts-requires
 give-counts-requires c κs =
     let d = c .before .before .before .before .before in
     let x = d .before .before .before .before .good .1 .1 .1 .1 .1 .1 .1 .1 .1 .0 in
-    few _ _ _ (omega (arith, x)) (ap told (d .answer .given .1)) (d .before .before .query-cylinder .ensures .owed)
+    few (omega (arith, x)) (of-value (d .before .before .query-cylinder .ensures) (ap told (d .answer .given .1)))
 
 give-requires : tie.Need-give-requires
 give-requires c κs =
     let d = c .before .before .before .before .before .before .before .before .before .before in
-    few-edges _ _ _ (ap told (d .answer .given .1)) (d .before .before .query-cylinder .ensures .owed)
+    few-edges _ (of-value (d .before .before .query-cylinder .ensures) (ap told (d .answer .given .1)))
 
 enum-known-answer-2 : tie.Need-enum-known-answer-2
 enum-known-answer-2 c = search needs
@@ -31,7 +33,8 @@ returns : tie.Need-returns
 returns c =
     let d = c .before .before .before .before .before .before .before .before .before .before .before in
     measures (d .before .before .query-cylinder .ensures)
-    (walked (ap told (d .answer .given .1)) (c .give .ensures) (c .before .before .before .before .before .give-counts .ensures))
+    (walked (λ (h : CountedHit). h .hit) hitPlaces (λ (h : CountedHit). h) (ap told (d .answer .given .1)) (c .give .ensures)
+    (c .before .before .before .before .before .give-counts .ensures))
 
 returns-2 : tie.Need-returns-2
 returns-2 c =

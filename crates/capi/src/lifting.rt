@@ -1,0 +1,158 @@
+// The distances of bodies that have a middle in x and y, with the witness in the machine's axes.
+ghost use Rattle.arith.specs.Vector.{vec};
+ghost use Rattle.profile.specs.Replies.{OfValue};
+ghost use Rattle.profile.specs.Vertices.{ball};
+ghost use Rattle.section.specs.Demand.{BoundedOffAxis};
+ghost use Rattle.settings.specs.Settings.{finest};
+ghost use Rattle.bands.specs.Band.{bar};
+ghost use Rattle.cylinders.specs.Promised.{Promised};
+ghost use Rattle.lifted.specs.Answers.{told, liftedPoint, liftedSphere, liftedCylinder, middleX, middleY};
+ghost use Rattle.lifted.specs.Placed.{WithPlace, WithPlaceCounted};
+ghost use Rattle.capi.specs.Interface.{Gives, Measures, counts, both};
+ghost use Rattle.capi.specs.Lifting.{lifted, liftedPlaces, liftedCylinderPlaces, FewLifted};
+use super::cylinder::give_counts;
+use arith::Vec3;
+use bands::Cylinder;
+use lifted::Lifted;
+use lifted::LiftedCounted;
+use lifted::LiftedHit;
+use profile::Sphere;
+
+// Puts a hit and its lifted witness into the lent places, and gives the number of a refusal.
+fn give_lifted(
+    answer: Lifted,
+    distance: &mut f64,
+    witness_x: &mut f64,
+    witness_y: &mut f64,
+    witness_z: &mut f64,
+    edge: &mut u32,
+) -> u32
+    requires { ⌜ OfValue FewLifted (told answer) ⌝ }
+    ensures { λ r. ⌜ Gives liftedPlaces (told answer) r
+        (lifted (now (distance .entry)) (now («witness_x» .entry)) (now («witness_y» .entry)) (now («witness_z» .entry))
+        (now (edge .entry)))
+        (lifted (now (distance .exit)) (now («witness_x» .exit)) (now («witness_y» .exit)) (now («witness_z» .exit))
+        (now (edge .exit))) ⌝ }
+{
+    match answer {
+        Lifted::Hit(h) => {
+            let hit = h.hit;
+            let at = h.witness;
+            let plain = hit.witness;
+            *distance = hit.distance;
+            *witness_x = at.x;
+            *witness_y = at.y;
+            *witness_z = at.z;
+            *edge = plain.edge as u32;
+            0
+        }
+        Lifted::Refused(n) => n,
+    }
+}
+
+#[no_mangle]
+pub extern "C" fn jorghipa_lifted_point(
+    section: &[f64],
+    x: f64,
+    y: f64,
+    z: f64,
+    distance: &mut f64,
+    witness_x: &mut f64,
+    witness_y: &mut f64,
+    witness_z: &mut f64,
+    edge: &mut u32,
+) -> u32
+    ensures { λ r. ⌜ (let s = now (section .entry) in
+        Measures (WithPlace (BoundedOffAxis s) x y) liftedPlaces (liftedPoint s (vec x y z)) r
+        (lifted (now (distance .entry)) (now («witness_x» .entry)) (now («witness_y» .entry)) (now («witness_z» .entry))
+        (now (edge .entry)))
+        (lifted (now (distance .exit)) (now («witness_x» .exit)) (now («witness_y» .exit)) (now («witness_z» .exit))
+        (now (edge .exit)))) ⌝ }
+{
+    let answer = lifted::lifted_point(section, Vec3 { x, y, z });
+    give_lifted(answer, distance, witness_x, witness_y, witness_z, edge)
+}
+
+#[no_mangle]
+pub extern "C" fn jorghipa_lifted_sphere(
+    section: &[f64],
+    x: f64,
+    y: f64,
+    z: f64,
+    radius: f64,
+    distance: &mut f64,
+    witness_x: &mut f64,
+    witness_y: &mut f64,
+    witness_z: &mut f64,
+    edge: &mut u32,
+) -> u32
+    ensures { λ r. ⌜ (let s = now (section .entry) in
+        Measures (WithPlace (BoundedOffAxis s) x y) liftedPlaces (liftedSphere s (ball (vec x y z) radius)) r
+        (lifted (now (distance .entry)) (now («witness_x» .entry)) (now («witness_y» .entry)) (now («witness_z» .entry))
+        (now (edge .entry)))
+        (lifted (now (distance .exit)) (now («witness_x» .exit)) (now («witness_y» .exit)) (now («witness_z» .exit))
+        (now (edge .exit)))) ⌝ }
+{
+    let center = Vec3 { x, y, z };
+    let answer = lifted::lifted_sphere(section, Sphere { center, radius });
+    give_lifted(answer, distance, witness_x, witness_y, witness_z, edge)
+}
+
+#[no_mangle]
+pub extern "C" fn jorghipa_lifted_cylinder(
+    section: &[f64],
+    ax: f64,
+    ay: f64,
+    az: f64,
+    bx: f64,
+    by: f64,
+    bz: f64,
+    radius: f64,
+    distance: &mut f64,
+    witness_x: &mut f64,
+    witness_y: &mut f64,
+    witness_z: &mut f64,
+    edge: &mut u32,
+    boxes: &mut u32,
+    waiting: &mut u32,
+    cut: &mut u32,
+) -> u32
+    ensures { λ r. ⌜
+        (let s = now (section .entry) in let c = bar (vec ax ay az) (vec bx by bz) radius in
+        Measures (WithPlaceCounted (Promised s c finest) (middleX c) (middleY c)) liftedCylinderPlaces (liftedCylinder s c) r
+        (both (lifted (now (distance .entry)) (now («witness_x» .entry)) (now («witness_y» .entry)) (now («witness_z» .entry))
+        (now (edge .entry)))
+        (counts (now (boxes .entry)) (now (waiting .entry)) (now (cut .entry))))
+        (both (lifted (now (distance .exit)) (now («witness_x» .exit)) (now («witness_y» .exit)) (now («witness_z» .exit))
+        (now (edge .exit)))
+        (counts (now (boxes .exit)) (now (waiting .exit)) (now (cut .exit))))) ⌝ }
+{
+    let a = Vec3 {
+        x: ax,
+        y: ay,
+        z: az,
+    };
+    let b = Vec3 {
+        x: bx,
+        y: by,
+        z: bz,
+    };
+    let answer = lifted::lifted_cylinder(section, Cylinder { a, b, radius });
+    match answer {
+        LiftedCounted::Hit(h) => {
+            let counted = h.hit;
+            let hit = counted.hit;
+            let witness = h.witness;
+            give_counts(counted, boxes, waiting, cut);
+            give_lifted(
+                Lifted::Hit(LiftedHit { hit, witness }),
+                distance,
+                witness_x,
+                witness_y,
+                witness_z,
+                edge,
+            )
+        }
+        LiftedCounted::Refused(n) => n,
+    }
+}
