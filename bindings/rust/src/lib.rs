@@ -4,6 +4,7 @@ mod assemblies;
 mod builders;
 mod cylinders;
 mod distances;
+mod moves;
 mod pairs;
 pub mod raw;
 #[cfg(feature = "records")]
@@ -15,6 +16,7 @@ pub use assemblies::*;
 pub use builders::*;
 pub use cylinders::*;
 pub use distances::*;
+pub use moves::*;
 pub use pairs::*;
 #[cfg(feature = "records")]
 pub use records::*;

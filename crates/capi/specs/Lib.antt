@@ -2,3 +2,4 @@
 pub mod Interface
 pub mod Lists
 pub mod Pairs
+pub mod Moves

@@ -140,6 +140,12 @@ module _ (s : List Float) (b : Body) (clearance : Float) (v : Travel) (t : Setti
       go : All Passes (stepsTests (v .steps)) → (1 ≤ v .steps) × (v .steps ≤ 4096)
       go (cons p nil) = within 1 4096 (v .steps) p
 
+  -- the offsets are finite
+  pub offsets-taken : All NumberTaken (pointNumbers (v .start) ++ pointNumbers (v .end))
+  offsets-taken =
+      all-rest (clearance ∷ []) (pointNumbers (v .start) ++ pointNumbers (v .end))
+      (all-rest (bodyNumbers b) extra (all-rest s (bodyNumbers b ++ extra) (whole .numbers)))
+
   -- the query of any body, beside this section, with these settings
   pub query-alone : (p : Body) → bodyAnswer s p t ≡ reply (refusal (aloneTests p)) (bodyDistance s p t)
   unfolding bodyAnswer

@@ -16,7 +16,7 @@ use Rattle.profile.specs.Vertices.{upto}
 use Rattle.profile.proofs.Each.{all-first, all-rest}
 use Rattle.profile.proofs.Refusals.Ordered.{by-first, by-rest, or-else-none, none-applies, all-pass}
 
-numbered-append : (a b : List Test) → T (numbered a) → T (numbered b) → T (numbered (a ++ b))
+pub numbered-append : (a b : List Test) → T (numbered a) → T (numbered b) → T (numbered (a ++ b))
 numbered-append [] b h k = k
 numbered-append (t ∷ a) b h k =
     and-i (ltb 0 (t .number)) (numbered (a ++ b)) (and-l (ltb 0 (t .number)) (numbered a) h)
@@ -47,6 +47,14 @@ module _ (tests : ℕ → List Test) (k : (i : ℕ) → T (numbered (tests i))) 
       (λ (q : i < n).
       by-first (first n) (tests n) (first-numbered n) 0 (first-refused i n q e f z) z ∙ or-else-none _)
       (eq-or-lt-of-le (omega (arith, h)))
+
+  -- none of the first is
+  pub none-yet : (i : ℕ) → ((j : ℕ) → j < i → refusal (tests j) ≡ 0) → refusal (first i) ≡ 0
+  unfolding upto refusal
+  none-yet zero p = refl
+  none-yet (suc i) p =
+      sym (by-rest (first i) (tests i) (first-numbered i) refl (none-yet i (λ j h. p j (omega (arith, h))))
+      (sym (p i (omega arith))))
 
   -- none is
   pub none-refused : (n : ℕ) → refusal (first n) ≡ 0 → (i : ℕ) → i < n → refusal (tests i) ≡ 0

@@ -79,6 +79,16 @@ module _ (s : List Float) (b : Body) (clearance : Float) (v : Travel) (t : Setti
     owed = tt;
   }
 
+  -- a step's number, where none before it is refused
+  pub placed-refused : refusal (beforePlacing s b clearance v t) ≡ 0 → (i : ℕ) → i ≤ v .steps → refusal (placedTests b v i) ≡ 0
+      → {n : ℕ} → n ≡ refusal (tests i) → (n ≡ 0 → ⊥) → turned-down n ≡ moveAnswer s b clearance v t
+  unfolding moveAnswer
+  placed-refused e i h f {n} g k =
+      refused n _ k
+      ∙ ap (λ (j : ℕ). reply j (reportUpto s b clearance v t (v .steps + 1)))
+      (by-rest (beforePlacing s b clearance v t) (placedTests b v (v .steps + 1)) (before-numbered b (v .steps)) refl e
+      (first-refused tests (λ j. alone-numbered (placedAt b v j)) i (v .steps + 1) (omega (arith, h)) f g k))
+
   -- before the turn of step i
   pub record SoFar (r : Report) (i : ℕ) : Type 0 where
     pub given : refusal (beforePlacing s b clearance v t) ≡ 0
@@ -137,18 +147,9 @@ module _ (s : List Float) (b : Body) (clearance : Float) (v : Travel) (t : Setti
 
       -- a step that is refused
       pub step-refused : {n : ℕ} → a ≡ turned-down n → Answers (turned-down n) (moveAnswer s b clearance v t) (MovePromised s b v t)
-      unfolding moveAnswer
       step-refused {n} e =
           let q = refused-by (refusal (tests i)) (stepHit s b v t i) (sym e ∙ step-answer) in
-          let number : n ≡ refusal (placedTests b v (v .steps + 1)) =
-              first-refused tests (λ j. alone-numbered (placedAt b v j)) i (v .steps + 1) (omega (arith, h)) (F .taken) (q .0) (q .1) in
-          record {
-            equal =
-                refused n _ (q .1) ∙ ap (λ (k : ℕ). reply k (reportUpto s b clearance v t (v .steps + 1)))
-                (by-rest (beforePlacing s b clearance v t) (placedTests b v (v .steps + 1)) (before-numbered b (v .steps)) refl
-                (F .given) number);
-            owed = tt;
-          }
+          record { equal = placed-refused (F .given) i h (F .taken) (q .0) (q .1); owed = tt }
 
       module _ {k : CountedHit} (e : a ≡ value k) where
         its-hit : (refusal (tests i) ≡ 0) × (k ≡ stepHit s b v t i)

@@ -7,6 +7,7 @@ pub mod generate;
 pub mod judge;
 #[cfg(feature = "mpfr")]
 pub mod mpfr;
+pub mod moves;
 pub mod near;
 pub mod pairs;
 pub mod port;
