@@ -5,7 +5,7 @@ use native.Mathlib.Nat.{eq-or-lt-of-le}
 use native.Mathlib.Omega.{arith}
 use mathlib.Core.Bool.{Bool, true, false, not, _&&_, _||_, cond}
 use mathlib.Core.Logic.{⊎-elim}
-use mathlib.Core.Path.{_≡_, refl, ap, subst, sym}
+use mathlib.Core.Path.{_≡_, refl, ap, subst, sym, _∙_}
 use lib.Dec.{T}
 use lib.Ieee.{Float}
 use Rattle.profile.specs.Vertices.{upto, any}
@@ -17,29 +17,29 @@ use Rattle.moves.specs.Moves.{untried, withStep}
 use Rattle.moves.specs.Steps.{firstCollision}
 use Rattle.moves.specs.declared.shapes.Report.{Report}
 
--- ---- one step's collision, by cases of whether there was one before
+-- ---- one step's collision, by cases of whether there is one, and was one before
 module _ (i : ℕ) (hits : Bool) (r : Report) where
   abbrev marked : Bool → ℕ → Report
   marked b k = record { distance = r .distance; step = r .step; collides = b; «colliding_step» = k; boxes = r .boxes }
 
-  pub collided : r .collides ≡ true → r ≡ firstCollision i hits r
-  collided e = go (r .collides) e
-    where
-      go : (b : Bool) → b ≡ true → marked b (r .«colliding_step») ≡ marked (b || hits) (cond (not b && hits) i (r .«colliding_step»))
-      go true f = refl
-      go false f = absurd (subst (λ (x : Bool). T (not x)) f tt)
+  abbrev after : Bool → Bool → Report
+  after b h = marked (b || h) (cond (not b && h) i (r .«colliding_step»))
 
-  pub colliding-now : r .collides ≡ false → hits ≡ true → marked true i ≡ firstCollision i hits r
-  colliding-now e f = rw (e, f)
-
-  pub still-clear : r .collides ≡ false → hits ≡ false → r ≡ firstCollision i hits r
-  still-clear e f = go (r .collides) hits e f
+  pub colliding-now : {k : ℕ} → hits ≡ true → k ≡ cond (r .collides) (r .«colliding_step») i → marked true k ≡ firstCollision i hits r
+  colliding-now e f = ap (marked true) f ∙ go (r .collides) hits e
     where
-      go : (b h : Bool) → b ≡ false → h ≡ false
-          → marked b (r .«colliding_step») ≡ marked (b || h) (cond (not b && h) i (r .«colliding_step»))
-      go false false p q = refl
-      go false true p q = absurd (subst T q tt)
-      go true h p q = absurd (subst T p tt)
+      go : (b h : Bool) → h ≡ true → marked true (cond b (r .«colliding_step») i) ≡ after b h
+      go true true p = refl
+      go false true p = refl
+      go b false p = absurd (subst (λ (x : Bool). T (not x)) p tt)
+
+  pub clear-now : hits ≡ false → r ≡ firstCollision i hits r
+  clear-now e = go (r .collides) hits e
+    where
+      go : (b h : Bool) → h ≡ false → marked b (r .«colliding_step») ≡ after b h
+      go true false p = refl
+      go false false p = refl
+      go b true p = absurd (subst T p tt)
 
 -- the first k for which the test is true
 pub record First (test : ℕ → Bool) (n k : ℕ) : Type 0 where

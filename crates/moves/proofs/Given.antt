@@ -18,6 +18,7 @@ use Rattle.settings.specs.declared.shapes.Settings.{Settings}
 use Rattle.bodies.specs.Bodies.{bodyNumbers, bodyOwn, aloneTests, bodyTests, bodyDistance, bodyAnswer}
 use Rattle.bodies.specs.declared.shapes.Body.{Body}
 use Rattle.bodies.specs.declared.shapes.Body.the-variants.{Sphere, Box, Cylinder}
+use Rattle.bodies.proofs.Alone.{own-numbered, alone-taken}
 use Rattle.moves.specs.Moves.{givenMove, stepsTests, beforePlacing}
 use Rattle.moves.specs.declared.shapes.Travel.{Travel}
 
@@ -82,17 +83,8 @@ before-numbered (Sphere b) n = tt
 before-numbered (Box x) n = tt
 before-numbered (Cylinder c) n = tt
 
-own-numbered : (b : Body) → T (numbered (bodyOwn b))
-own-numbered (Sphere b) = tt
-own-numbered (Box x) = tt
-own-numbered (Cylinder c) = tt
-
 pub alone-numbered : (b : Body) → T (numbered (aloneTests b))
 alone-numbered b = own-numbered b
-
-alone-taken : (b : Body) → refusal (aloneTests b) ≡ 0 → Taken 3 256 [] (bodyNumbers b) (bodyOwn b)
-unfolding refusal anyOf
-alone-taken b e = taken 3 256 [] (bodyNumbers b) (bodyOwn b) (own-numbered b) e
 
 within : (least greatest n : ℕ) → T (not (outside least greatest n)) → (least ≤ n) × (n ≤ greatest)
 within least greatest n h = go (ltb n least) (ltb greatest n) (nltb→le n least) (nltb→le greatest n) h

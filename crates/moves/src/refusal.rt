@@ -48,10 +48,10 @@ fn steps_refusal(steps: u32) -> u32
 pub fn before_placing(section: &[f64], body: Body, clearance: f64, travel: Travel, settings: Settings) -> u32
     ensures { λ r. ⌜ r ≡ refusal (beforePlacing (now (section .entry)) body clearance travel settings) ⌝ }
 {
-    let steps = travel.steps;
+    let counted = steps_refusal(travel.steps);
     let given = given_refusal(section, body, clearance, travel, settings);
     if given != 0 {
         return given;
     }
-    steps_refusal(steps)
+    counted
 }

@@ -1,5 +1,6 @@
 // The report of a move, step by step.
 ghost use Prim.Native.Nat.{_+_, _≤_};
+ghost use mathlib.Core.Bool.{cond};
 ghost use mathlib.Core.Path.{_≡_};
 ghost use Rattle.moves.specs.Moves.{untried, withStep};
 ghost use Rattle.moves.specs.Steps.{nearerStep, firstCollision};
@@ -39,18 +40,24 @@ fn nearer_step(report: Report, i: u32, distance: f64) -> Report
 }
 
 // The first step that collides stays.
+fn first_of(collides: bool, first: u32, i: u32) -> u32
+    ensures { λ r. ⌜ r ≡ cond collides first i ⌝ }
+{
+    if collides {
+        return first;
+    }
+    i
+}
+
 fn first_collision(report: Report, i: u32, hits: bool) -> Report
     ensures { λ r. ⌜ r ≡ firstCollision i hits report ⌝ }
 {
-    if report.collides {
-        return report;
-    }
     if hits {
         return Report {
             distance: report.distance,
             step: report.step,
             collides: true,
-            colliding_step: i,
+            colliding_step: first_of(report.collides, report.colliding_step, i),
             boxes: report.boxes,
         };
     }
