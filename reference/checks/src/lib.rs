@@ -8,6 +8,7 @@ pub mod judge;
 pub mod lifted;
 #[cfg(feature = "mpfr")]
 pub mod mpfr;
+pub mod moves;
 pub mod near;
 pub mod pairs;
 pub mod port;
