@@ -5,9 +5,9 @@ pub mod assembly;
 pub mod fixed;
 pub mod generate;
 pub mod judge;
+pub mod moves;
 #[cfg(feature = "mpfr")]
 pub mod mpfr;
-pub mod moves;
 pub mod near;
 pub mod pairs;
 pub mod port;
