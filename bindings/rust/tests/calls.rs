@@ -167,10 +167,19 @@ fn moves() {
     let coarser = Settings { most: 0, ..finest };
     assert_eq!(try_move(&with_radius(-1.0), ball(0.0, 0.0, -1.0), 1.0, still(0), coarser), Err(Refusal(18)));
     for steps in [0, 4097, u32::MAX] {
-        assert_eq!(try_move(&S, ball(1e6, 0.0, 1.0), 1.0, travel(at(1e5, 0.0, 0.0), origin, steps), finest), Err(Refusal(19)));
+        assert_eq!(
+            try_move(&S, ball(1e6, 0.0, 1.0), 1.0, travel(at(1e5, 0.0, 0.0), origin, steps), finest),
+            Err(Refusal(19))
+        );
     }
-    assert_eq!(try_move(&S, ball(1e6, 0.0, 1.0), 1.0, travel(at(1e5, 0.0, 0.0), origin, 4096), finest), Err(Refusal(5)));
-    assert_eq!(try_move(&S, ball(1e6, 0.0, 1.0), 1.0, travel(origin, at(1e5, 0.0, 0.0), 4096), finest), Err(Refusal(5)));
+    assert_eq!(
+        try_move(&S, ball(1e6, 0.0, 1.0), 1.0, travel(at(1e5, 0.0, 0.0), origin, 4096), finest),
+        Err(Refusal(5))
+    );
+    assert_eq!(
+        try_move(&S, ball(1e6, 0.0, 1.0), 1.0, travel(origin, at(1e5, 0.0, 0.0), 4096), finest),
+        Err(Refusal(5))
+    );
     // A short axis that leans by little, far out: rounding tips it past the axis test.
     let short = Body::Cylinder(bar(at(0.0, 0.0, 0.0), at(1e-9, 0.0, 1e-5), 1.0));
     assert!(try_move(&S, short, 1.0, still(1), finest).is_ok());

@@ -6,9 +6,9 @@ pub mod fixed;
 pub mod generate;
 pub mod judge;
 pub mod lifted;
+pub mod moves;
 #[cfg(feature = "mpfr")]
 pub mod mpfr;
-pub mod moves;
 pub mod near;
 pub mod pairs;
 pub mod port;

@@ -124,8 +124,7 @@ fn single(given: &Move, body: &Body, wrong: Wrong) -> (f64, u32, bool) {
             let Answer::Walked(hit, [boxes, ..]) = ask(Kind::SetCylinder, &numbers_of(settings)) else {
                 panic!("no walk of {body:?}, a placement of {given:?}")
             };
-            let verdict =
-                Query::new(Kind::VerdictCylinder, section, &[body.numbers(), &[given.clearance]].concat());
+            let verdict = Query::new(Kind::VerdictCylinder, section, &[body.numbers(), &[given.clearance]].concat());
             let judged = if wrong.tilt_left_out { hit.distance } else { judge::judged(&verdict, hit.distance) };
             let collides = judged + 1e-9 < given.clearance;
             let own = settings == FINEST && !wrong.tilt_left_out;

@@ -35,7 +35,10 @@ mod tests {
         assert_eq!(before_placing(&LOW, &bad, 1.0, o, 0, FINEST), Err(6));
         assert_eq!(before_placing(&S, &bad, 1.0, o, 0, FINEST), Err(9));
         assert_eq!(before_placing(&S, &Body::Box([5.0, 4.0, 0.0, 1.0]), 1.0, o, 4097, FINEST), Err(10));
-        assert_eq!(before_placing(&S, &Body::Cylinder([0.0, 0.0, 0.0, 1.0, 0.0, 1.0, 1.0]), 1.0, o, 0, FINEST), Err(11));
+        assert_eq!(
+            before_placing(&S, &Body::Cylinder([0.0, 0.0, 0.0, 1.0, 0.0, 1.0, 1.0]), 1.0, o, 0, FINEST),
+            Err(11)
+        );
         let good = Body::Sphere([0.0; 4]);
         for (steps, expected) in [(0, Err(19)), (1, Ok(())), (4096, Ok(())), (4097, Err(19)), (u32::MAX, Err(19))] {
             assert_eq!(before_placing(&S, &good, 1.0, o, steps, FINEST), expected);

@@ -61,9 +61,14 @@ fn check(given: &Move) -> Result<Result<Report, u32>, String> {
 fn check_foreign(given: &Move) -> Result<(), String> {
     let (_, numbers) = as_given(&given.body);
     let long = [numbers.as_slice(), &[0.0]].concat();
-    for (kind, numbers, number) in
-        [(2, &numbers[..6], 1), (9, &numbers[..0], 1), (4, &long, 1), (0, &numbers, 14), (1, &numbers, 14), (5, &numbers, 14)]
-    {
+    for (kind, numbers, number) in [
+        (2, &numbers[..6], 1),
+        (9, &numbers[..0], 1),
+        (4, &long, 1),
+        (0, &numbers, 14),
+        (1, &numbers, 14),
+        (5, &numbers, 14),
+    ] {
         if called(given, kind, numbers).err() != Some(number) {
             return Err(format!("DIFFERENCE\n  kind {kind}, {} numbers of {given:?}", numbers.len()));
         }

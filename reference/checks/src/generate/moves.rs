@@ -51,11 +51,13 @@ fn settings(random: &mut Random) -> Settings {
 /// Of any kind, with at most this many steps where it is not refused for their number. A cylinder that is walked at the finest
 /// settings takes long, and gets few.
 fn drawn(random: &mut Random, most: u32) -> Move {
-    let style = if random.chance(2, 3) { random.pick(&[Style::Drawing, Style::Measured]) } else { random.pick(&STYLES) };
+    let style =
+        if random.chance(2, 3) { random.pick(&[Style::Drawing, Style::Measured]) } else { random.pick(&STYLES) };
     let vertices = section(random, style, 12);
     let body = assemblies::body(random, style, &vertices);
     let (start, end) = offsets(random, &vertices, body.numbers()[0]);
-    let counts = [1, 1, 2, 2, 3, 3, 4, 7, 16, 100, 4096, 0, 4097, u32::MAX].map(|n| if n > 4096 { n } else { n.min(most) });
+    let counts =
+        [1, 1, 2, 2, 3, 3, 4, 7, 16, 100, 4096, 0, 4097, u32::MAX].map(|n| if n > 4096 { n } else { n.min(most) });
     let (steps, settings) = (random.pick(&counts), settings(random));
     let settings = if settings == FINEST && steps > 4 { Settings { most: 64, ..FINEST } } else { settings };
     let clearance = random.pick(&[0.0, 0.0, 0.5, 1e-9, 2.0, 25.0, -1e-8, -1.0, LIMIT]);
@@ -80,7 +82,8 @@ fn spoilt(random: &mut Random, mut given: Move) -> Move {
 }
 
 pub fn any_move(random: &mut Random) -> Move {
-    let given = drawn(random, if random.chance(1, 40) { 4096 } else { 16 });
+    let most = if random.chance(1, 40) { 4096 } else { 16 };
+    let given = drawn(random, most);
     spoilt(random, given)
 }
 

@@ -13,7 +13,9 @@ enum-known-answer-2 : tie.Need-enum-known-answer-2
 enum-known-answer-2 c = search needs
 
 returns : tie.Need-returns
-returns c = ?
+returns c =
+    let t = c .before .before .answer .given .1 in
+    record { returned = rw t; lent = rw (t, c .mark-of .ensures) }
 
 returns-2 : tie.Need-returns-2
 returns-2 c =

@@ -15,7 +15,9 @@ unfolding moveOf
 returns c = rw (← c .before .one-body-refusal .ensures) (body-refused _ _ (c .if1 .taken))
 
 body-at-requires : tie.Need-body-at-requires
-body-at-requires c κs = ?
+body-at-requires c κs =
+    let a = c .before .before .before .before .args in
+    seven-given (a .kind) (a .numbers .now) (sym (c .before .one-body-refusal .ensures) ∙ c .if1 .left)
 
 try-move-requires : tie.Need-try-move-requires
 try-move-requires c κs = search needs
@@ -25,7 +27,10 @@ give-report-requires c κs = search needs
 
 returns-2 : tie.Need-returns-2
 unfolding moveOf
-returns-2 c = ?
+returns-2 c =
+    let d = c .before .before .before .before .before .before in
+    let z = sym (d .before .before .before .one-body-refusal .ensures) ∙ d .before .before .if1 .left in
+    body-taken _ z (measures (rw (d .before .body-at .ensures) at (d .try-move .ensures)) (c .give-report .ensures))
 
 pub jorghipa-move-spec : {M : Type 1} → statement M
 jorghipa-move-spec =
