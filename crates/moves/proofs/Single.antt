@@ -72,7 +72,7 @@ module _ (s : List Float) (b : Body) (clearance : Float) (v : Travel) (t : Setti
         let before = beforePlacing s b clearance v t in
         let placed = placedTests b v (v .steps + 1) in
         let p = none-applies (before ++ placed)
-            (numbered-append before placed (before-numbered b (v .steps)) (first-numbered tests numbers (v .steps + 1))) e in
+        (numbered-append before placed (before-numbered b (v .steps)) (first-numbered tests numbers (v .steps + 1))) e in
         (all-pass (all-first before placed p), all-pass (all-rest before placed p))
 
     alone : (i : ℕ) → i ≤ v .steps → refusal (tests i) ≡ 0

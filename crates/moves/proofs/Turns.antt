@@ -126,8 +126,8 @@ module _ (s : List Float) (b : Body) (clearance : Float) (v : Travel) (t : Setti
         let last : i ≡ v .steps + 1 = omega (arith, h, F .inside) in
         let all : refusal (placedTests b v (v .steps + 1)) ≡ 0 = rw last at (F .taken) in
         let none : 0 ≡ refusal (moveTests s b clearance v t) =
-            by-rest (beforePlacing s b clearance v t) (placedTests b v (v .steps + 1)) (before-numbered b (v .steps)) refl
-            (F .given) (sym all) in
+        by-rest (beforePlacing s b clearance v t) (placedTests b v (v .steps + 1)) (before-numbered b (v .steps)) refl
+        (F .given) (sym all) in
         record {
           equal = ap value (rw last at (F .reported))
               ∙ ap (λ (k : ℕ). reply k (reportUpto s b clearance v t (v .steps + 1))) none;

@@ -26,7 +26,7 @@ nought = fin false 0 (pos 0)
 no-size : (a c d : ℕ) → 0 < c → a * c ≡ 0 * d → a ≡ 0
 no-size a c d C e =
     elim (decide a 0) [
-      inl h ↦ omega (arith, h)
+      | inl h ↦ omega (arith, h)
       | inr h ↦ absurd (let p = mul-pos h C in let q = e ∙ zero-mul d in omega (arith, p, q))
     ]
 
@@ -98,7 +98,7 @@ nought-over (fin false m e) n N h =
     size : 0 < m
     size =
         elim (decide m 0) [
-          inl l ↦ absurd (none l)
+          | inl l ↦ absurd (none l)
           | inr l ↦ l
         ]
       where
