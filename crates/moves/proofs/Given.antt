@@ -48,34 +48,34 @@ module _ (test : Float → Bool) where
       skip false q e = e
 
 -- beside a section that is taken, with settings that are, a body has its own number
-module _ (s : List Float) (shapes : All (ShapeTaken 3 256) (s ∷ [])) (numbers : All NumberTaken s) (axis : All Passes (axisTests s))
-  where
-    shape-passes : All Passes (shapeTests 3 256 (s ∷ []))
-    shape-passes =
-        cons (found-none odd (all-map (λ l h. h .even) shapes))
-        (cons (found-none (fewer 3) (all-map (λ l h. h .long) shapes))
-        (cons (found-none (more 256) (all-map (λ l h. h .short) shapes)) nil))
+module _ (s : List Float) (shapes : All (ShapeTaken 3 256) (s ∷ [])) (numbers : All NumberTaken s)
+    (axis : All Passes (axisTests s)) where
+  shape-passes : All Passes (shapeTests 3 256 (s ∷ []))
+  shape-passes =
+      cons (found-none odd (all-map (λ l h. h .even) shapes))
+      (cons (found-none (fewer 3) (all-map (λ l h. h .long) shapes))
+      (cons (found-none (more 256) (all-map (λ l h. h .short) shapes)) nil))
 
-    same-numbers : (l : List Float) (rest : List Test)
-        → refusal (numberTests (s ++ (l ++ [])) ++ rest) ≡ refusal (numberTests l ++ rest)
-    same-numbers l rest =
-        rw (
-          none-before notFinite (l ++ []) (all-map (λ x n. n .finite) numbers),
-          none-behind notFinite l,
-          none-before overLimit (l ++ []) (all-map (λ x n. n .small) numbers),
-          none-behind overLimit l,
-        )
+  same-numbers : (l : List Float) (rest : List Test)
+      → refusal (numberTests (s ++ (l ++ [])) ++ rest) ≡ refusal (numberTests l ++ rest)
+  same-numbers l rest =
+      rw (
+        none-before notFinite (l ++ []) (all-map (λ x n. n .finite) numbers),
+        none-behind notFinite l,
+        none-before overLimit (l ++ []) (all-map (λ x n. n .small) numbers),
+        none-behind overLimit l,
+      )
 
-    pub beside-alone : (t : Settings) → All Passes (settingsTests t) → (b : Body)
-        → refusal (bodyTests s b [] (settingsTests t)) ≡ refusal (aloneTests b)
-    beside-alone t p b =
-        let rest = settingsTests t ++ (axisTests s ++ bodyOwn b) in
-        passing-first (numberTests (s ++ (bodyNumbers b ++ [])) ++ rest) shape-passes
-        ∙ same-numbers (bodyNumbers b) rest
-        ∙ refusal-append (numberTests (bodyNumbers b)) rest tt
-        ∙ ap (λ (n : ℕ). orElse (refusal (numberTests (bodyNumbers b))) n)
-        (passing-first (axisTests s ++ bodyOwn b) p ∙ passing-first (bodyOwn b) axis)
-        ∙ sym (refusal-append (numberTests (bodyNumbers b)) (bodyOwn b) tt)
+  pub beside-alone : (t : Settings) → All Passes (settingsTests t) → (b : Body)
+      → refusal (bodyTests s b [] (settingsTests t)) ≡ refusal (aloneTests b)
+  beside-alone t p b =
+      let rest = settingsTests t ++ (axisTests s ++ bodyOwn b) in
+      passing-first (numberTests (s ++ (bodyNumbers b ++ [])) ++ rest) shape-passes
+      ∙ same-numbers (bodyNumbers b) rest
+      ∙ refusal-append (numberTests (bodyNumbers b)) rest tt
+      ∙ ap (λ (n : ℕ). orElse (refusal (numberTests (bodyNumbers b))) n)
+      (passing-first (axisTests s ++ bodyOwn b) p ∙ passing-first (bodyOwn b) axis)
+      ∙ sym (refusal-append (numberTests (bodyNumbers b)) (bodyOwn b) tt)
 
 -- ---- the move
 pub before-numbered : (b : Body) (n : ℕ) → T (numbered (bodyOwn b ++ stepsTests n))

@@ -26,7 +26,8 @@ pub record Smallest (d : ℕ → Float) (k : ℕ) (distance : Float) (step : ℕ
 
 module _ (d : ℕ → Float) where
   -- of the first step alone
-  only : T (not (isNan (d 0))) → (b : Bool) → (T b → T (d 0 ≺ ∞)) → (T (d 0 ≺ ∞) → T b) → Smallest d 1 (cond b (d 0) ∞) (cond b 0 0)
+  only : T (not (isNan (d 0))) → (b : Bool) → (T b → T (d 0 ≺ ∞)) → (T (d 0 ≺ ∞) → T b)
+      → Smallest d 1 (cond b (d 0) ∞) (cond b 0 0)
   only p true f g = record {
     named = omega arith;
     its-own = refl;
@@ -47,40 +48,40 @@ module _ (d : ℕ → Float) where
       first i h = omega (arith, h)
 
   -- with one step more
-  module _ (k : ℕ) (numbers : (i : ℕ) → i < k → T (not (isNan (d i)))) (distance : Float) (step : ℕ) (S : Smallest d k distance step)
-    where
-      one-more : (b : Bool) → (T b → T (d k ≺ distance)) → (T (d k ≺ distance) → T b)
-          → Smallest d (suc k) (cond b (d k) distance) (cond b k step)
-      one-more true f g = record {
-        named = omega arith;
-        its-own = refl;
-        none-smaller = smaller;
-        earlier-larger = larger;
-      }
-        where
-          larger : (i : ℕ) → i < k → T (d k ≺ d i)
-          larger i h = ⊎-elim (λ (p : T (d k ≺ d i)). p) (λ (p : T (d i ≺ distance)). absurd (S .none-smaller i h p))
-              (apart (d k) distance (d i) (numbers i h) (f tt))
+  module _ (k : ℕ) (numbers : (i : ℕ) → i < k → T (not (isNan (d i)))) (distance : Float) (step : ℕ)
+      (S : Smallest d k distance step) where
+    one-more : (b : Bool) → (T b → T (d k ≺ distance)) → (T (d k ≺ distance) → T b)
+        → Smallest d (suc k) (cond b (d k) distance) (cond b k step)
+    one-more true f g = record {
+      named = omega arith;
+      its-own = refl;
+      none-smaller = smaller;
+      earlier-larger = larger;
+    }
+      where
+        larger : (i : ℕ) → i < k → T (d k ≺ d i)
+        larger i h = ⊎-elim (λ (p : T (d k ≺ d i)). p) (λ (p : T (d i ≺ distance)). absurd (S .none-smaller i h p))
+            (apart (d k) distance (d i) (numbers i h) (f tt))
 
-          smaller : (i : ℕ) → i < suc k → T (d i ≺ d k) → ⊥
-          smaller i h p =
-              ⊎-elim
-              (λ (q : i ≡ k). let r = subst (λ (j : ℕ). T (d j ≺ d k)) q p in not-above (d k) (d k) r r)
-              (λ (q : i < k). not-above (d i) (d k) p (larger i q))
-              (eq-or-lt-of-le (omega (arith, h)))
-      one-more false f g = record {
-        named = omega (arith, S .named);
-        its-own = S .its-own;
-        none-smaller = smaller;
-        earlier-larger = S .earlier-larger;
-      }
-        where
-          smaller : (i : ℕ) → i < suc k → T (d i ≺ distance) → ⊥
-          smaller i h p =
-              ⊎-elim
-              (λ (q : i ≡ k). g (subst (λ (j : ℕ). T (d j ≺ distance)) q p))
-              (λ (q : i < k). S .none-smaller i q p)
-              (eq-or-lt-of-le (omega (arith, h)))
+        smaller : (i : ℕ) → i < suc k → T (d i ≺ d k) → ⊥
+        smaller i h p =
+            ⊎-elim
+            (λ (q : i ≡ k). let r = subst (λ (j : ℕ). T (d j ≺ d k)) q p in not-above (d k) (d k) r r)
+            (λ (q : i < k). not-above (d i) (d k) p (larger i q))
+            (eq-or-lt-of-le (omega (arith, h)))
+    one-more false f g = record {
+      named = omega (arith, S .named);
+      its-own = S .its-own;
+      none-smaller = smaller;
+      earlier-larger = S .earlier-larger;
+    }
+      where
+        smaller : (i : ℕ) → i < suc k → T (d i ≺ distance) → ⊥
+        smaller i h p =
+            ⊎-elim
+            (λ (q : i ≡ k). g (subst (λ (j : ℕ). T (d j ≺ distance)) q p))
+            (λ (q : i < k). S .none-smaller i q p)
+            (eq-or-lt-of-le (omega (arith, h)))
 
 module _ (body : ℕ → Body) (hit : ℕ → CountedHit) (clearance : Float) where
   abbrev d : ℕ → Float

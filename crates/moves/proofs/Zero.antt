@@ -1,5 +1,5 @@
--- Zero in the steps of a placement: x - x is +0 for every finite x, and +0 times a count, and that divided by a count above 0, is +0
--- again. By the one value of size 0.
+-- Zero in the steps of a placement: x - x is +0 for every finite x, and +0 times a count, and that divided by a count above 0,
+-- is +0 again. By the one value of size 0.
 use Prim.Native.Nat.{ℕ, zero, suc, _+_, _*_, _-_, _^_, _<_, _≤_}
 use native.Mathlib.Nat.{le-refl, mul-pos, zero-mul}
 use native.Mathlib.Omega.{arith}
@@ -10,7 +10,8 @@ use borrow.Author.Tests.{le-ltb, ne-eqb}
 use lib.Dec.{T}
 use lib.Pow.{pow-pos}
 use lib.IntN.{ℤ, pos}
-use lib.Ieee.{Float, Format, nan, inf, fin, add, binary64, div, down, emax, fits, low, mul, neg, ofBits, ofInt, prec, round, sub, sum, up}
+use lib.Ieee.{Float, Format, nan, inf, fin, add, binary64, div, down, emax, fits, low, mul, neg, ofBits, ofInt, prec}
+use lib.Ieee.{round, sub, sum, up}
 use lib.Ieee.Back.{round-whole}
 use lib.Ieee.Exact.{HasValue, round-exact}
 use lib.Ieee.Fits.{down-pos, round-fits, up-pos}
@@ -68,10 +69,12 @@ sub-itself nan h = absurd h
 sub-itself (inf s) h = absurd h
 sub-itself (fin true m e) h =
     let a = m * up e * down e in
-    rw (le-ltb a a (le-refl a)) (round-nought binary64 (a - a) (down e * down e) (omega arith) (mul-pos (down-pos e) (down-pos e)) nought-fits)
+    rw (le-ltb a a (le-refl a))
+    (round-nought binary64 (a - a) (down e * down e) (omega arith) (mul-pos (down-pos e) (down-pos e)) nought-fits)
 sub-itself (fin false m e) h =
     let a = m * up e * down e in
-    rw (le-ltb a a (le-refl a)) (round-nought binary64 (a - a) (down e * down e) (omega arith) (mul-pos (down-pos e) (down-pos e)) nought-fits)
+    rw (le-ltb a a (le-refl a))
+    (round-nought binary64 (a - a) (down e * down e) (omega arith) (mul-pos (down-pos e) (down-pos e)) nought-fits)
 
 true-false : {A : Type 0} → true ≡ false → A
 true-false e = absurd (subst T e tt)
@@ -116,6 +119,7 @@ unfolding ofInt
 offset-still x X n i N l k =
     ap (λ (y : Float). x ⊕ y)
     (ap (λ (y : Float). (y ⊗ round binary64 false i 1) ⊘ round binary64 false n 1) (sub-itself x X)
-    ∙ ap (λ (y : Float). y ⊘ round binary64 false n 1) (nought-times (round binary64 false i 1) i (round-whole binary64 false i k))
+    ∙ ap (λ (y : Float). y ⊘ round binary64 false n 1)
+    (nought-times (round binary64 false i 1) i (round-whole binary64 false i k))
     ∙ nought-over (round binary64 false n 1) n N (round-whole binary64 false n l)
     ∙ sym is-nought)

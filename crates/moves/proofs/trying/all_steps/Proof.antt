@@ -71,7 +71,8 @@ loop-again c =
     let same = d .before .before .before .loop .inv .0 in (
       same,
       step-more _ _ _ _ _ (d .before .before .before .loop .inv .1)
-          (at-most (d .before .before .before .loop .inv .0) (d .before .before .loop-test .taken)) (d .before .placed-at .ensures)
+          (at-most (d .before .before .before .loop .inv .0) (d .before .before .loop-test .taken))
+          (d .before .placed-at .ensures)
           (d .query-body .ensures) (ap told (c .before .before .hit .given .1)) (c .with-step .ensures),
     )
 
