@@ -94,6 +94,12 @@ pub extern "C" fn jorghipa_move(
         intervals,
     };
     let body = body_at(kind, numbers, 0);
-    let answer = moves::try_move(section, body, clearance, Travel { start, end, steps }, settings);
+    let answer = moves::try_move(
+        section,
+        body,
+        clearance,
+        Travel { start, end, steps },
+        settings,
+    );
     give_report(answer, distance, step, collides, colliding_step, boxes)
 }

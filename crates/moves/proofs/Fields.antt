@@ -25,7 +25,8 @@ module _ (i : ℕ) (hits : Bool) (r : Report) where
   abbrev after : Bool → Bool → Report
   after b h = marked (b || h) (cond (not b && h) i (r .«colliding_step»))
 
-  pub colliding-now : {k : ℕ} → hits ≡ true → k ≡ cond (r .collides) (r .«colliding_step») i → marked true k ≡ firstCollision i hits r
+  pub colliding-now : {k : ℕ} → hits ≡ true → k ≡ cond (r .collides) (r .«colliding_step») i
+      → marked true k ≡ firstCollision i hits r
   colliding-now e f = ap (marked true) f ∙ go (r .collides) hits e
     where
       go : (b h : Bool) → h ≡ true → marked true (cond b (r .«colliding_step») i) ≡ after b h

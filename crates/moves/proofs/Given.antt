@@ -48,8 +48,8 @@ module _ (test : Float → Bool) where
       skip false q e = e
 
 -- beside a section that is taken, with settings that are, a body has its own number
-module _ (s : List Float) (shapes : All (ShapeTaken 3 256) (s ∷ [])) (numbers : All NumberTaken s) (axis : All Passes (axisTests s))
-    where
+module _ (s : List Float) (shapes : All (ShapeTaken 3 256) (s ∷ [])) (numbers : All NumberTaken s)
+    (axis : All Passes (axisTests s)) where
   shape-passes : All Passes (shapeTests 3 256 (s ∷ []))
   shape-passes =
       cons (found-none odd (all-map (λ l h. h .even) shapes))

@@ -47,7 +47,7 @@ module _ (X Y Z a b c : ℕ) (A : 0 < a) (B : 0 < b) (C : 0 < c) where
   fractions-apart : (s t u : Bool) → T (below s (X * b) t (Y * a)) → Apart s t u
   fractions-apart false false false h =
       elim (decide (Z * a) (X * c)) [
-        inl k ↦ inr (lt→ltb (Z * b) (Y * c) (third (ltb→lt (X * b) (Y * a) h) k))
+        | inl k ↦ inr (lt→ltb (Z * b) (Y * c) (third (ltb→lt (X * b) (Y * a) h) k))
         | inr k ↦ inl (lt→ltb (X * c) (Z * a) k)
       ]
   fractions-apart false false true h =
@@ -56,27 +56,27 @@ module _ (X Y Z a b c : ℕ) (A : 0 < a) (B : 0 < b) (C : 0 < c) where
   fractions-apart false true u h = absurd h
   fractions-apart true false false h =
       elim (decide (X * c + Z * a) 0) [
-        inl k ↦ inr (lt→ltb (Z * b) (Y * c) (alone k (ltb→lt 0 (X * b + Y * a) h)))
+        | inl k ↦ inr (lt→ltb (Z * b) (Y * c) (alone k (ltb→lt 0 (X * b + Y * a) h)))
         | inr k ↦ inl (lt→ltb 0 (X * c + Z * a) k)
       ]
     where
       alone : X * c + Z * a ≤ 0 → 0 < X * b + Y * a → Z * b < Y * c
       alone k h = third (elim (decide (X * b) 0) [
-        inl l ↦ omega (arith, h, l)
+        | inl l ↦ omega (arith, h, l)
         | inr l ↦ absurd (let p = factor X b c C l in omega (arith, p, k))
       ]) (omega (arith, k))
   fractions-apart true false true h =
       elim (decide (Z * b + Y * c) 0) [
-        inl k ↦ inl (lt→ltb (Z * a) (X * c) (alone k (ltb→lt 0 (X * b + Y * a) h)))
+        | inl k ↦ inl (lt→ltb (Z * a) (X * c) (alone k (ltb→lt 0 (X * b + Y * a) h)))
         | inr k ↦ inr (lt→ltb 0 (Z * b + Y * c) k)
       ]
     where
       alone : Z * b + Y * c ≤ 0 → 0 < X * b + Y * a → Z * a < X * c
       alone k h =
           elim (decide (Z * a) 0) [
-            inl l ↦ elim (decide (X * c) 0) [
-              inl m ↦ absurd (elim (decide (X * b) 0) [
-                inl n ↦ let p : 0 < Y * a = omega (arith, h, n) in let q = factor Y a c C p in omega (arith, q, k)
+            | inl l ↦ elim (decide (X * c) 0) [
+              | inl m ↦ absurd (elim (decide (X * b) 0) [
+                | inl n ↦ let p : 0 < Y * a = omega (arith, h, n) in let q = factor Y a c C p in omega (arith, q, k)
                 | inr n ↦ let q = factor X b c C n in omega (arith, q, m)
               ])
               | inr m ↦ omega (arith, l, m)
@@ -88,7 +88,7 @@ module _ (X Y Z a b c : ℕ) (A : 0 < a) (B : 0 < b) (C : 0 < c) where
       inl (lt→ltb 0 (X * c + Z * a) (omega (arith, factor X b c C p)))
   fractions-apart true true true h =
       elim (decide (X * c) (Z * a)) [
-        inl k ↦ inr (lt→ltb (Y * c) (Z * b) (third-negative (ltb→lt (Y * a) (X * b) h) k))
+        | inl k ↦ inr (lt→ltb (Y * c) (Z * b) (third-negative (ltb→lt (Y * a) (X * b) h) k))
         | inr k ↦ inl (lt→ltb (Z * a) (X * c) k)
       ]
 

@@ -1,5 +1,5 @@
--- Tests of one step after the other: where none of the first steps is refused, the first refused one gives its number, however many
--- follow; and where nothing is refused, no step is. By the law of one list of tests after the other.
+-- Tests of one step after the other: where none of the first steps is refused, the first refused one gives its number, however
+-- many follow; and where nothing is refused, no step is. By the law of one list of tests after the other.
 use Prim.Native.Nat.{ℕ, zero, suc, _+_, _<_}
 use native.Mathlib.Nat.{eq-or-lt-of-le}
 use native.Mathlib.Numerals.{add-one}

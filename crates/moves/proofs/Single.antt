@@ -1,6 +1,6 @@
 -- The answer and the single calls. Where a move is not turned down, the query of every step gives its hit, and the report is what
--- these come to: the first smallest distance, the first collision, the sum of the boxes. At the finest settings each step's collision
--- is its own verdict. Where a step's query is the first that is turned down, its number is the move's.
+-- these come to: the first smallest distance, the first collision, the sum of the boxes. At the finest settings each step's
+-- collision is its own verdict. Where a step's query is the first that is turned down, its number is the move's.
 use Prim.Native.Nat.{ℕ, suc, _+_, _<_, _≤_}
 use native.Mathlib.Numerals.{add-one}
 use native.Mathlib.Omega.{arith}
@@ -72,7 +72,7 @@ module _ (s : List Float) (b : Body) (clearance : Float) (v : Travel) (t : Setti
         let before = beforePlacing s b clearance v t in
         let placed = placedTests b v (v .steps + 1) in
         let p = none-applies (before ++ placed)
-            (numbered-append before placed (before-numbered b (v .steps)) (first-numbered tests numbers (v .steps + 1))) e in
+        (numbered-append before placed (before-numbered b (v .steps)) (first-numbered tests numbers (v .steps + 1))) e in
         (all-pass (all-first before placed p), all-pass (all-rest before placed p))
 
     alone : (i : ℕ) → i ≤ v .steps → refusal (tests i) ≡ 0

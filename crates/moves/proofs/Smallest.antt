@@ -26,7 +26,8 @@ pub record Smallest (d : ℕ → Float) (k : ℕ) (distance : Float) (step : ℕ
 
 module _ (d : ℕ → Float) where
   -- of the first step alone
-  only : T (not (isNan (d 0))) → (b : Bool) → (T b → T (d 0 ≺ ∞)) → (T (d 0 ≺ ∞) → T b) → Smallest d 1 (cond b (d 0) ∞) (cond b 0 0)
+  only : T (not (isNan (d 0))) → (b : Bool) → (T b → T (d 0 ≺ ∞)) → (T (d 0 ≺ ∞) → T b)
+      → Smallest d 1 (cond b (d 0) ∞) (cond b 0 0)
   only p true f g = record {
     named = omega arith;
     its-own = refl;
@@ -47,8 +48,8 @@ module _ (d : ℕ → Float) where
       first i h = omega (arith, h)
 
   -- with one step more
-  module _ (k : ℕ) (numbers : (i : ℕ) → i < k → T (not (isNan (d i)))) (distance : Float) (step : ℕ) (S : Smallest d k distance step)
-      where
+  module _ (k : ℕ) (numbers : (i : ℕ) → i < k → T (not (isNan (d i)))) (distance : Float) (step : ℕ)
+      (S : Smallest d k distance step) where
     one-more : (b : Bool) → (T b → T (d k ≺ distance)) → (T (d k ≺ distance) → T b)
         → Smallest d (suc k) (cond b (d k) distance) (cond b k step)
     one-more true f g = record {

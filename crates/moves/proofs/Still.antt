@@ -1,5 +1,5 @@
--- A move with equal offsets reports the query of that placement: every step places the body alike, at the offset start + 0, so that
--- the distance and the collision are those of step 0, and the boxes are that query's, once for each step.
+-- A move with equal offsets reports the query of that placement: every step places the body alike, at the offset start + 0, so
+-- that the distance and the collision are those of step 0, and the boxes are that query's, once for each step.
 use Prim.Native.Nat.{ℕ, zero, suc, _+_, _*_, _^_, _<_, _≤_}
 use native.Mathlib.Nat.{le-trans}
 use native.Mathlib.Numerals.{add-one}
@@ -74,7 +74,8 @@ module _ (b : Body) (h : CountedHit) (clearance : Float) (p : T (not (isNan (h .
   again k n = go (d ≺ d) (λ q. not-above d d q q) hits
     where
       go : (a : Bool) → (T a → ⊥) → (c : Bool)
-          → made (cond a d d) (cond a (suc k) 0) (c || c) (cond (not c && c) (suc k) 0) (n + h .boxes) ≡ made d 0 c 0 (n + h .boxes)
+          → made (cond a d d) (cond a (suc k) 0) (c || c) (cond (not c && c) (suc k) 0) (n + h .boxes)
+          ≡ made d 0 c 0 (n + h .boxes)
       go true f c = absurd (f tt)
       go false f true = refl
       go false f false = refl
@@ -147,14 +148,17 @@ module _ (s : List Float) (b : Body) (clearance : Float) (v : Travel) (t : Setti
       → moveAnswer s b clearance v t
       ≡ value (standing (placed b (stood (v .start))) (bodyDistance s (placed b (stood (v .start))) t) clearance
       ((v .steps + 1) * bodyDistance s (placed b (stood (v .start))) t .boxes))
-  still promise = answer s b clearance v t e ∙ ap value (rw (add-one (v .steps)) (folded ∙ all-standing there hit clearance number (v .steps)))
+  still promise =
+      answer s b clearance v t e
+      ∙ ap value (rw (add-one (v .steps)) (folded ∙ all-standing there hit clearance number (v .steps)))
     where
       number : T (not (isNan (hit .hit .distance)))
       number =
           subst (λ (p : Body). T (not (isNan (bodyDistance s p t .hit .distance)))) (placed-still 0 (omega arith))
           (promised-number s t (placedAt b v 0) (stepHit s b v t 0) (promise .each 0 (omega arith)))
 
-      folded : reportUpto s b clearance v t (suc (v .steps)) ≡ upto (λ i r. withStep i there hit clearance r) untried (suc (v .steps))
+      folded : reportUpto s b clearance v t (suc (v .steps))
+          ≡ upto (λ i r. withStep i there hit clearance r) untried (suc (v .steps))
       folded =
           upto-same (λ (i : ℕ) (r : Report). withStep i (placedAt b v i) (stepHit s b v t i) clearance r)
           (λ (i : ℕ) (r : Report). withStep i there hit clearance r) untried (suc (v .steps))

@@ -1,5 +1,5 @@
--- The loop over the steps: what holds before each turn, that a turn keeps it, and the answer where the loop ends: at the first step
--- that is refused, or behind the last. By the laws of tests in order, and by what each step's query gives.
+-- The loop over the steps: what holds before each turn, that a turn keeps it, and the answer where the loop ends, at the first
+-- step that is refused or behind the last. By the laws of tests in order, and by what each step's query gives.
 use Prim.Native.Nat.{ℕ, zero, suc, _+_, _*_, _<_, _≤_}
 use native.Mathlib.Nat.{eq-or-lt-of-le, le-trans}
 use native.Mathlib.Numerals.{add-one}
@@ -126,8 +126,8 @@ module _ (s : List Float) (b : Body) (clearance : Float) (v : Travel) (t : Setti
         let last : i ≡ v .steps + 1 = omega (arith, h, F .inside) in
         let all : refusal (placedTests b v (v .steps + 1)) ≡ 0 = rw last at (F .taken) in
         let none : 0 ≡ refusal (moveTests s b clearance v t) =
-            by-rest (beforePlacing s b clearance v t) (placedTests b v (v .steps + 1)) (before-numbered b (v .steps)) refl
-            (F .given) (sym all) in
+        by-rest (beforePlacing s b clearance v t) (placedTests b v (v .steps + 1)) (before-numbered b (v .steps)) refl
+        (F .given) (sym all) in
         record {
           equal = ap value (rw last at (F .reported))
               ∙ ap (λ (k : ℕ). reply k (reportUpto s b clearance v t (v .steps + 1))) none;
@@ -146,7 +146,8 @@ module _ (s : List Float) (b : Body) (clearance : Float) (v : Travel) (t : Setti
       step-answer = A .equal ∙ ap (λ (q : Body). bodyAnswer s q t) at ∙ query-alone s b clearance v t (F .given) (placedAt b v i)
 
       -- a step that is refused
-      pub step-refused : {n : ℕ} → a ≡ turned-down n → Answers (turned-down n) (moveAnswer s b clearance v t) (MovePromised s b v t)
+      pub step-refused : {n : ℕ} → a ≡ turned-down n
+          → Answers (turned-down n) (moveAnswer s b clearance v t) (MovePromised s b v t)
       step-refused {n} e =
           let q = refused-by (refusal (tests i)) (stepHit s b v t i) (sym e ∙ step-answer) in
           record { equal = placed-refused (F .given) i h (F .taken) (q .0) (q .1); owed = tt }
@@ -158,7 +159,8 @@ module _ (s : List Float) (b : Body) (clearance : Float) (v : Travel) (t : Setti
         kept : Kept i
         kept =
             subst (λ (z : CountedHit). BodyPromised s (placedAt b v i) t z) (its-hit .1)
-            (subst (λ (q : Body). BodyPromised s q t k) at (subst (λ (z : Reply CountedHit). OfValue (BodyPromised s p t) z) e (A .owed)))
+            (subst (λ (q : Body). BodyPromised s q t k) at
+            (subst (λ (z : Reply CountedHit). OfValue (BodyPromised s p t) z) e (A .owed)))
 
         all-kept : (j : ℕ) → j < i + 1 → Kept j
         all-kept j l =
@@ -167,7 +169,8 @@ module _ (s : List Float) (b : Body) (clearance : Float) (v : Travel) (t : Setti
         -- the boxes fit
         pub step-fits : r .boxes + k .boxes ≤ 4294967295
         step-fits =
-            let one = boxes-most s t (settings-taken t (settings-pass s b clearance v t (F .given)) .boxes) (placedAt b v i) kept in
+            let most = settings-taken t (settings-pass s b clearance v t (F .given)) .boxes in
+            let one = boxes-most s t most (placedAt b v i) kept in
             let few = few-boxes in
             let same = ap (λ (z : CountedHit). z .boxes) (its-hit .1) in
             small few one same h few-steps
@@ -181,7 +184,8 @@ module _ (s : List Float) (b : Body) (clearance : Float) (v : Travel) (t : Setti
           given = F .given;
           inside = omega (arith, h);
           reported =
-              upto-more (λ (j : ℕ) (x : Report). withStep j (placedAt b v j) (stepHit s b v t j) clearance x) untried i (F .reported)
+              upto-more (λ (j : ℕ) (x : Report). withStep j (placedAt b v j) (stepHit s b v t j) clearance x) untried i
+              (F .reported)
               (f ∙ ap (λ (q : Body). withStep i q k clearance r) at
               ∙ ap (λ (z : CountedHit). withStep i (placedAt b v i) z clearance r) (its-hit .1));
           taken = one-more tests (λ j. alone-numbered (placedAt b v j)) i (F .taken) (its-hit .0);

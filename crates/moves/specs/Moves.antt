@@ -1,6 +1,6 @@
--- 02's trying of a move: a body, a clearance, a start and an end offset, and n from 1 to 4,096 steps. The body is placed at steps 0
--- to n, and each placement is one query with the call's settings. Reported are the smallest distance and its first step, the first
--- colliding step if any, and the total of the boxes measured.
+-- 02's trying of a move: a body, a clearance, a start and an end offset, and n from 1 to 4,096 steps. The body is placed at steps
+-- 0 to n, and each placement is one query with the call's settings. Reported are the smallest distance and its first step, the
+-- first colliding step if any, and the total of the boxes measured.
 use Prim.Native.Nat.{ℕ, _+_, _*_, _≤_}
 use mathlib.Core.Bool.{Bool, true, false, not, _&&_, _||_, cond}
 use mathlib.Core.List.{List, [], _∷_, _++_}
@@ -53,8 +53,8 @@ moveTests s b clearance v t = beforePlacing s b clearance v t ++ placedTests b v
 abbrev pub untried : Report
 untried = record { distance = ∞; step = 0; collides = false; «colliding_step» = 0; boxes = 0 }
 
--- with step i, at which the body stands there and has this hit: a strictly smaller distance takes over, the first collision stays,
--- the boxes add up
+-- with step i, at which the body stands there and has this hit: a strictly smaller distance takes over, the first collision
+-- stays, the boxes add up
 abbrev pub withStep : ℕ → Body → CountedHit → Float → Report → Report
 withStep i b h clearance r =
     let nearer = h .hit .distance ≺ r .distance in

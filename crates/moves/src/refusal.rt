@@ -25,7 +25,13 @@ fn beside_refusal(section: &[f64], body: Body, extra: &[f64], settings: u32) -> 
 }
 
 // The numbers of section, body, clearance, offsets and settings.
-fn given_refusal(section: &[f64], body: Body, clearance: f64, travel: Travel, settings: Settings) -> u32
+fn given_refusal(
+    section: &[f64],
+    body: Body,
+    clearance: f64,
+    travel: Travel,
+    settings: Settings,
+) -> u32
     ensures { λ r. ⌜ r ≡ refusal (givenMove (now (section .entry)) body clearance travel settings) ⌝ }
 {
     let start = travel.start;
@@ -45,7 +51,13 @@ fn steps_refusal(steps: u32) -> u32
 }
 
 // Everything that is given, then 19.
-pub fn before_placing(section: &[f64], body: Body, clearance: f64, travel: Travel, settings: Settings) -> u32
+pub fn before_placing(
+    section: &[f64],
+    body: Body,
+    clearance: f64,
+    travel: Travel,
+    settings: Settings,
+) -> u32
     ensures { λ r. ⌜ r ≡ refusal (beforePlacing (now (section .entry)) body clearance travel settings) ⌝ }
 {
     let counted = steps_refusal(travel.steps);

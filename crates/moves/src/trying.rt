@@ -14,7 +14,13 @@ use bodies::query_body;
 use cylinders::CountedAnswer;
 use settings::Settings;
 
-fn all_steps(section: &[f64], body: Body, clearance: f64, travel: Travel, settings: Settings) -> MoveAnswer
+fn all_steps(
+    section: &[f64],
+    body: Body,
+    clearance: f64,
+    travel: Travel,
+    settings: Settings,
+) -> MoveAnswer
     requires { ⌜ refusal (beforePlacing (now section) body clearance travel settings) ≡ 0 ⌝ }
     ensures { λ r. ⌜
         (let s = now (section .entry) in
@@ -38,7 +44,13 @@ fn all_steps(section: &[f64], body: Body, clearance: f64, travel: Travel, settin
 }
 
 // The report, or the number under which the call is turned down. It asks nothing of the caller.
-pub fn try_move(section: &[f64], body: Body, clearance: f64, travel: Travel, settings: Settings) -> MoveAnswer
+pub fn try_move(
+    section: &[f64],
+    body: Body,
+    clearance: f64,
+    travel: Travel,
+    settings: Settings,
+) -> MoveAnswer
     ensures { λ r. ⌜
         (let s = now (section .entry) in
         Answers (told r) (moveAnswer s body clearance travel settings) (MovePromised s body travel settings))
