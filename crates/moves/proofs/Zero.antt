@@ -1,9 +1,9 @@
 -- Zero in the steps of a placement: x - x is +0 for every finite x, and +0 times a count, and that divided by a count above 0,
 -- is +0 again. By the one value of size 0.
-use Prim.Native.Nat.{ℕ, zero, suc, _+_, _*_, _-_, _^_, _<_, _≤_}
+use Prim.Native.Nat.{ℕ, suc, _+_, _*_, _-_, _^_, _<_, _≤_}
 use native.Mathlib.Nat.{le-refl, mul-pos, zero-mul}
 use native.Mathlib.Omega.{arith}
-use mathlib.Core.Bool.{Bool, true, false, not, _&&_, cond}
+use mathlib.Core.Bool.{Bool, true, false}
 use mathlib.Core.Logic.{inl, inr}
 use mathlib.Core.Path.{_≡_, refl, ap, subst, sym, _∙_}
 use borrow.Author.Tests.{le-ltb, ne-eqb}
