@@ -143,9 +143,10 @@ fn moves() {
     let travel = |start, end, steps| Travel { start, end, steps };
     let (origin, finest) = (at(0.0, 0.0, 0.0), Settings::FINEST);
     let report = |distance, step, colliding_step, boxes| Ok(Report { distance, step, colliding_step, boxes });
-    // Past the end of the bar and back to where it was near: the first of two equal distances.
+    // Towards the end of the bar: smallest at the last step, below the clearance one step before.
     let down = travel(at(0.0, 0.0, 10.0), at(0.0, 0.0, -10.0), 4);
-    assert_eq!(try_move(&S, ball(0.0, 40.0, 4.0), 12.0, down, finest), report(6.0, 4, Some(4), 0));
+    assert_eq!(try_move(&S, ball(0.0, 40.0, 4.0), 12.0, down, finest), report(6.0, 4, Some(3), 0));
+    // Along it: the first of three equal distances, and the first of three collisions.
     let past = travel(at(0.0, 0.0, -10.0), at(0.0, 0.0, 10.0), 2);
     assert_eq!(try_move(&S, ball(15.0, 10.0, 1.0), 1.0, past, finest), report(4.0, 0, None, 0));
     assert_eq!(try_move(&S, ball(15.0, 10.0, 1.0), 4.5, past, finest), report(4.0, 0, Some(0), 0));
@@ -181,9 +182,9 @@ fn moves() {
         Err(Refusal(5))
     );
     // A short axis that leans by little, far out: rounding tips it past the axis test.
-    let short = Body::Cylinder(bar(at(0.0, 0.0, 0.0), at(1e-9, 0.0, 1e-5), 1.0));
+    let short = Body::Cylinder(bar(origin, at(1.513e-10, 0.0, 1.08e-6), 1.0));
     assert!(try_move(&S, short, 1.0, still(1), finest).is_ok());
-    assert_eq!(try_move(&S, short, 1.0, travel(origin, at(5e5, 0.0, 1e6), 1), finest), Err(Refusal(11)));
+    assert_eq!(try_move(&S, short, 1.0, travel(origin, at(5e5, 0.0, 0.0), 1), finest), Err(Refusal(11)));
 }
 
 #[test]

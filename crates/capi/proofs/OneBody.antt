@@ -1,4 +1,4 @@
--- One body as C gives it: its number before the call's own, whatever the call answers; one that is taken has seven numbers.
+-- One body as C gives it: its number before the call's own, whatever the call answers. A body that is taken has seven numbers.
 use Prim.Native.Nat.{ℕ, zero, suc, _≤_}
 use mathlib.Core.Bool.{Bool, true, false, not}
 use mathlib.Core.List.{List}

@@ -1,5 +1,4 @@
 // Trying a move: the report in the lent places.
-ghost use mathlib.Core.Path.{_≡_};
 ghost use Rattle.arith.specs.Vector.{vec};
 ghost use Rattle.settings.specs.Settings.{settings};
 ghost use Rattle.moves.specs.Moves.{told, MovePromised};

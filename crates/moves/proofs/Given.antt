@@ -8,7 +8,7 @@ use lib.Dec.{T, ltb, nltb→le}
 use lib.Ieee.{Float}
 use Rattle.profile.specs.Refusals.{Test, refusal, anyOf, odd, fewer, more, notFinite, overLimit}
 use Rattle.profile.specs.Refusals.{shapeTests, numberTests, axisTests, pointNumbers}
-use Rattle.profile.specs.Replies.{Reply, reply}
+use Rattle.profile.specs.Replies.{reply}
 use Rattle.profile.specs.Steps.{numbered, orElse}
 use Rattle.profile.proofs.Each.{All, nil, cons, all-first, all-rest, all-append, all-map, found-none}
 use Rattle.profile.proofs.Refusals.Ordered.{Passes, all-pass, refusal-append, by-first, by-rest, or-else-none}

@@ -6,7 +6,7 @@ use native.Mathlib.Numerals.{add-one}
 use native.Mathlib.Omega.{arith}
 use mathlib.Core.Bool.{Bool, true, false, not}
 use mathlib.Core.List.{List, [], _∷_, _++_}
-use mathlib.Core.Path.{_≡_, refl, ap, subst, sym, _∙_}
+use mathlib.Core.Path.{_≡_, refl, ap, sym, _∙_}
 use lib.Dec.{T}
 use lib.Ieee.{Float, nan, inf, fin, isNan}
 use Rattle.arith.specs.Num.{isFinite}
@@ -27,7 +27,7 @@ use Rattle.moves.specs.Placement.{placedAt}
 use Rattle.moves.specs.Moves.{beforePlacing, placedTests, moveTests, stepHit, reportUpto, moveAnswer, MovePromised}
 use Rattle.moves.specs.declared.shapes.Travel.{Travel}
 use Rattle.moves.specs.declared.shapes.Report.{Report}
-use Rattle.moves.proofs.Fields.{First, Colliding, never, at, hits, colliding, boxes-total}
+use Rattle.moves.proofs.Fields.{Colliding, never, at, hits, colliding, boxes-total}
 use Rattle.moves.proofs.Given.{alone-numbered, before-numbered, query-alone, verdict-given}
 use Rattle.moves.proofs.Ordered.{numbered-append, first-numbered, none-refused, none-yet}
 use Rattle.moves.proofs.Smallest.{Smallest, smallest}

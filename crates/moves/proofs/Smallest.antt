@@ -1,6 +1,6 @@
 -- The report's distance is that of the step that it names, which is the first with the smallest: no step's is smaller, and every
 -- earlier one's is larger. For any bodies and hits whose distances are no NaN, by induction over the steps.
-use Prim.Native.Nat.{ℕ, zero, suc, _<_, _≤_}
+use Prim.Native.Nat.{ℕ, zero, suc, _<_}
 use native.Mathlib.Nat.{eq-or-lt-of-le}
 use native.Mathlib.Omega.{arith}
 use mathlib.Core.Bool.{Bool, true, false, not, cond}
@@ -12,8 +12,6 @@ use Rattle.arith.specs.F64.{_≺_, ∞}
 use Rattle.profile.specs.Vertices.{upto}
 use Rattle.walk.specs.declared.shapes.CountedHit.{CountedHit}
 use Rattle.bodies.specs.declared.shapes.Body.{Body}
-use Rattle.moves.specs.Moves.{untried, withStep}
-use Rattle.moves.specs.declared.shapes.Report.{Report}
 use Rattle.moves.proofs.Fields.{tried}
 use Rattle.moves.proofs.Order.{apart, not-above, at-infinity}
 

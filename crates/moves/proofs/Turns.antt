@@ -1,8 +1,7 @@
--- The loop over the steps: what holds before each turn, that a turn keeps it, and the answer where the loop ends: at the first
--- step that is refused, or behind the last. By the laws of tests in order, and by what each step's query gives.
+-- The loop over the steps: what holds before each turn, that a turn keeps it, and the answer where the loop ends, at the first
+-- step that is refused or behind the last. By the laws of tests in order, and by what each step's query gives.
 use Prim.Native.Nat.{ℕ, zero, suc, _+_, _*_, _<_, _≤_}
 use native.Mathlib.Nat.{eq-or-lt-of-le, le-trans}
-use native.Mathlib.Numerals.{add-one}
 use native.Mathlib.Omega.{arith}
 use mathlib.Core.Bool.{Bool, true, false}
 use mathlib.Core.List.{List}
@@ -169,8 +168,8 @@ module _ (s : List Float) (b : Body) (clearance : Float) (v : Travel) (t : Setti
         -- the boxes fit
         pub step-fits : r .boxes + k .boxes ≤ 4294967295
         step-fits =
-            let taken = settings-taken t (settings-pass s b clearance v t (F .given)) in
-            let one = boxes-most s t (taken .boxes) (placedAt b v i) kept in
+            let most = settings-taken t (settings-pass s b clearance v t (F .given)) .boxes in
+            let one = boxes-most s t most (placedAt b v i) kept in
             let few = few-boxes in
             let same = ap (λ (z : CountedHit). z .boxes) (its-hit .1) in
             small few one same h few-steps

@@ -1,17 +1,17 @@
 -- Zero in the steps of a placement: x - x is +0 for every finite x, and +0 times a count, and that divided by a count above 0,
 -- is +0 again. By the one value of size 0.
-use Prim.Native.Nat.{ℕ, zero, suc, _+_, _*_, _-_, _^_, _<_, _≤_}
+use Prim.Native.Nat.{ℕ, suc, _+_, _*_, _-_, _^_, _<_, _≤_}
 use native.Mathlib.Nat.{le-refl, mul-pos, zero-mul}
 use native.Mathlib.Omega.{arith}
-use mathlib.Core.Bool.{Bool, true, false, not, _&&_, cond}
+use mathlib.Core.Bool.{Bool, true, false}
 use mathlib.Core.Logic.{inl, inr}
 use mathlib.Core.Path.{_≡_, refl, ap, subst, sym, _∙_}
 use borrow.Author.Tests.{le-ltb, ne-eqb}
-use lib.Dec.{T}
+use lib.Dec.{T, ltb}
 use lib.Pow.{pow-pos}
 use lib.IntN.{ℤ, pos}
-use lib.Ieee.{Float, Format, nan, inf, fin, add, binary64, div, down, emax, fits, low, mul, neg, ofBits, ofInt, prec}
-use lib.Ieee.{round, sub, sum, up}
+use lib.Ieee.{Float, Format, nan, inf, fin, binary64, down, emax, fits, low, prec, up}
+use lib.Ieee.{add, div, mul, neg, ofBits, ofInt, round, sub, sum}
 use lib.Ieee.Back.{round-whole}
 use lib.Ieee.Exact.{HasValue, round-exact}
 use lib.Ieee.Fits.{down-pos, round-fits, up-pos}
@@ -63,18 +63,19 @@ is-nought : 𝟘 ≡ nought
 unfolding ofBits
 is-nought = refl
 
+same : (a : ℕ) → ltb a a ≡ false
+same a = le-ltb a a (le-refl a)
+
+less-itself : (a : ℕ) (e : ℤ) → round binary64 false (a - a) (down e * down e) ≡ nought
+less-itself a e =
+    round-nought binary64 (a - a) (down e * down e) (omega arith) (mul-pos (down-pos e) (down-pos e)) nought-fits
+
 sub-itself : (x : Float) → T (isFinite x) → x ⊖ x ≡ nought
 unfolding isFinite sub add neg sum
 sub-itself nan h = absurd h
 sub-itself (inf s) h = absurd h
-sub-itself (fin true m e) h =
-    let a = m * up e * down e in
-    rw (le-ltb a a (le-refl a))
-    (round-nought binary64 (a - a) (down e * down e) (omega arith) (mul-pos (down-pos e) (down-pos e)) nought-fits)
-sub-itself (fin false m e) h =
-    let a = m * up e * down e in
-    rw (le-ltb a a (le-refl a))
-    (round-nought binary64 (a - a) (down e * down e) (omega arith) (mul-pos (down-pos e) (down-pos e)) nought-fits)
+sub-itself (fin true m e) h = rw (same (m * up e * down e)) (less-itself (m * up e * down e) e)
+sub-itself (fin false m e) h = rw (same (m * up e * down e)) (less-itself (m * up e * down e) e)
 
 true-false : {A : Type 0} → true ≡ false → A
 true-false e = absurd (subst T e tt)

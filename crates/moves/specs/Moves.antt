@@ -2,7 +2,7 @@
 -- 0 to n, and each placement is one query with the call's settings. Reported are the smallest distance and its first step, the
 -- first colliding step if any, and the total of the boxes measured.
 use Prim.Native.Nat.{ℕ, _+_, _*_, _≤_}
-use mathlib.Core.Bool.{Bool, true, false, not, _&&_, _||_, cond}
+use mathlib.Core.Bool.{false, not, _&&_, _||_, cond}
 use mathlib.Core.List.{List, [], _∷_, _++_}
 use lib.Ieee.{Float}
 use Rattle.arith.specs.F64.{_≺_, ∞}

@@ -40,7 +40,8 @@ returns : tie.Need-returns Inv-loop μ-loop
 returns c =
     let d = c .before .before .before in
     step-refused _ _ _ _ _ (d .before .before .before .loop .inv .1)
-    (at-most (d .before .before .before .loop .inv .0) (d .before .before .loop-test .taken)) (d .before .placed-at .ensures)
+    (at-most (d .before .before .before .loop .inv .0) (d .before .before .loop-test .taken))
+    (d .before .placed-at .ensures)
     (d .query-body .ensures) (ap told (c .before .n .given .1))
 
 enum-known-hit : tie.Need-enum-known-hit Inv-loop μ-loop
@@ -50,7 +51,8 @@ with-step-requires : tie.Need-with-step-requires Inv-loop μ-loop
 with-step-requires c κs =
     let d = c .before .before .before in
     step-fits _ _ _ _ _ (d .before .before .before .loop .inv .1)
-    (at-most (d .before .before .before .loop .inv .0) (d .before .before .loop-test .taken)) (d .before .placed-at .ensures)
+    (at-most (d .before .before .before .loop .inv .0) (d .before .before .loop-test .taken))
+    (d .before .placed-at .ensures)
     (d .query-body .ensures) (ap told (c .before .hit .given .1))
 
 add-i : tie.Need-add-i Inv-loop μ-loop
