@@ -16,7 +16,8 @@
  *    4  a number is NaN or infinite           9  body radius below 0
  *    5  a magnitude over the limit           10  z1 < z0 or r1 < r0
  *   18  a setting out of range or not finite 11  cylinder neither along the spindle nor across it
- *   14  body of an unknown kind (assembly)   17  more than 64 bodies (assembly)
+ *   14  body of an unknown kind              17  more than 64 bodies (assembly)
+ *                                            19  no step, or more than 4,096 (move)
  * So 18 stands between 5 and 6. 4 and 5 do not look at the settings: a tolerance of NaN is 18.
  *
  * jorghipa_records.h has the queries of a point, sphere, box and cylinder over an array of vertices.
@@ -153,6 +154,23 @@ uint32_t jorghipa_pair_convex(const double *chuck, size_t chuck_count, const dou
                               const double *convex, size_t convex_count, uint32_t *winner, double *distance,
                               double *witness_z, double *witness_radius, uint32_t *edge, uint32_t *boxes,
                               uint32_t *waiting, uint32_t *cut);
+
+/* Trying a straight move: the body is placed at steps 0 to `steps`, 1 to 4,096, and each placement is one query with these
+ * settings. Along each axis the offset at step i is start + (end - start) * i / steps, with the multiplication first; it is
+ * added to a sphere's centre and to both ends of a cylinder; a box's z bounds take z, its r bounds x. Kind and numbers of the
+ * body are as in jorghipa_pair.
+ *
+ * *distance is the smallest of all steps, *step the first that has it. *collides is 1 where some step's judged distance
+ * + 1e-9 < clearance, else 0, and *colliding_step the first such step, or 0. *boxes is the sum of all steps' boxes: a sphere
+ * counts none, a box or a cylinder along the spindle one.
+ *
+ * The order: 1 where numbers_count is not 7, 14 for another kind; 1 to 5, 18, 6, 9, 10, 11 over section, body, clearance,
+ * offsets and settings; 19 where steps is 0 or over 4,096; then of the first refused placement 4, 5, 9, 10 or 11. */
+uint32_t jorghipa_move(const double *section, size_t section_count, uint32_t kind, const double *numbers,
+                       size_t numbers_count, double clearance, double start_x, double start_y, double start_z,
+                       double end_x, double end_y, double end_z, uint32_t steps, double tolerance, uint32_t most,
+                       uint32_t intervals, double *distance, uint32_t *step, uint32_t *collides,
+                       uint32_t *colliding_step, uint32_t *boxes);
 
 #ifdef __cplusplus
 }

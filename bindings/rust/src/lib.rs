@@ -5,6 +5,7 @@ mod builders;
 mod cylinders;
 mod distances;
 mod lifted;
+mod moves;
 mod pairs;
 pub mod raw;
 #[cfg(feature = "records")]
@@ -17,6 +18,7 @@ pub use builders::*;
 pub use cylinders::*;
 pub use distances::*;
 pub use lifted::*;
+pub use moves::*;
 pub use pairs::*;
 #[cfg(feature = "records")]
 pub use records::*;

@@ -73,6 +73,12 @@ unsafe extern "C" {
         convex_count: usize, winner: *mut u32, distance: *mut f64, witness_z: *mut f64, witness_radius: *mut f64,
         edge: *mut u32, boxes: *mut u32, waiting: *mut u32, cut: *mut u32,
     ) -> u32;
+    pub fn jorghipa_move(
+        section: *const f64, section_count: usize, kind: u32, numbers: *const f64, numbers_count: usize, clearance: f64,
+        start_x: f64, start_y: f64, start_z: f64, end_x: f64, end_y: f64, end_z: f64, steps: u32, tolerance: f64,
+        most: u32, intervals: u32, distance: *mut f64, step: *mut u32, collides: *mut u32, colliding_step: *mut u32,
+        boxes: *mut u32,
+    ) -> u32;
     pub fn jorghipa_sqrt(x: f64) -> f64;
     pub fn jorghipa_hypot(a: f64, b: f64) -> f64;
 }

@@ -34,6 +34,7 @@ impl Refusal {
             14 => "record, or body of an assembly, of the wrong kind",
             17 => "more than 64 bodies",
             18 => "a setting out of range or not finite",
+            19 => "no step, or more than 4,096",
             _ => return None,
         })
     }
@@ -62,12 +63,12 @@ mod tests {
     fn every_known_number_has_its_meaning() {
         let table: Vec<&str> =
             include_str!("../README.md").lines().filter(|line| line.starts_with("| ")).skip(1).collect();
-        let known: Vec<u32> = (1..=14).chain([17, 18]).collect();
+        let known: Vec<u32> = (1..=14).chain([17, 18, 19]).collect();
         assert_eq!(table.len(), known.len());
         for (number, row) in known.into_iter().zip(table) {
             assert_eq!(row, format!("| {number} | {} |", Refusal(number).meaning().unwrap()));
         }
-        for unknown in [0, 15, 16, 19, u32::MAX] {
+        for unknown in [0, 15, 16, 20, u32::MAX] {
             assert_eq!(Refusal(unknown).to_string(), format!("refused {unknown}"));
         }
     }

@@ -138,6 +138,56 @@ fn pairs() {
 }
 
 #[test]
+fn moves() {
+    let ball = |x, z, radius| Body::Sphere(Sphere { center: at(x, 0.0, z), radius });
+    let travel = |start, end, steps| Travel { start, end, steps };
+    let (origin, finest) = (at(0.0, 0.0, 0.0), Settings::FINEST);
+    let report = |distance, step, colliding_step, boxes| Ok(Report { distance, step, colliding_step, boxes });
+    // Towards the end of the bar: smallest at the last step, below the clearance one step before.
+    let down = travel(at(0.0, 0.0, 10.0), at(0.0, 0.0, -10.0), 4);
+    assert_eq!(try_move(&S, ball(0.0, 40.0, 4.0), 12.0, down, finest), report(6.0, 4, Some(3), 0));
+    // Along it: the first of three equal distances, and the first of three collisions.
+    let past = travel(at(0.0, 0.0, -10.0), at(0.0, 0.0, 10.0), 2);
+    assert_eq!(try_move(&S, ball(15.0, 10.0, 1.0), 1.0, past, finest), report(4.0, 0, None, 0));
+    assert_eq!(try_move(&S, ball(15.0, 10.0, 1.0), 4.5, past, finest), report(4.0, 0, Some(0), 0));
+    // A box's z bounds take z, its r bounds x; y moves nothing.
+    let out = travel(origin, at(4.0, 1000.0, 8.0), 2);
+    assert_eq!(try_move(&S, Body::Box(bounds(5.0, 6.0, 12.0, 13.0)), 3.0, out, finest), report(2.0, 0, Some(0), 3));
+    let across = Body::Cylinder(bar(at(0.0, 0.0, 20.0), at(30.0, 0.0, 20.0), 1.0));
+    let still = |steps| travel(origin, origin, steps);
+    let coarse = Settings { tolerance: 0.01, most: 64, intervals: 4 };
+    assert_eq!(try_move(&S, across, 0.0, still(3), coarse).map(|report| report.boxes), Ok(4 * 7));
+    // Nothing to hit: +infinity at step 0.
+    let axis = [0.0, 0.0, 20.0, 0.0, 0.0, 0.0];
+    assert_eq!(try_move(&axis, ball(5.0, 0.0, 1.0), 1.0, down, finest), report(f64::INFINITY, 0, None, 0));
+    // The lowest over what is given, then 19, then the first refused placement.
+    let far = travel(origin, at(2e6, 0.0, 0.0), 0);
+    assert_eq!(try_move(&S, ball(0.0, 0.0, -1.0), 1.0, far, finest), Err(Refusal(5)));
+    assert_eq!(try_move(&S, ball(0.0, 0.0, -1.0), 1.0, still(0), finest), Err(Refusal(9)));
+    assert_eq!(try_move(&with_radius(-1.0), ball(0.0, 0.0, -1.0), 1.0, still(0), finest), Err(Refusal(6)));
+    let coarser = Settings { most: 0, ..finest };
+    assert_eq!(try_move(&with_radius(-1.0), ball(0.0, 0.0, -1.0), 1.0, still(0), coarser), Err(Refusal(18)));
+    for steps in [0, 4097, u32::MAX] {
+        assert_eq!(
+            try_move(&S, ball(1e6, 0.0, 1.0), 1.0, travel(at(1e5, 0.0, 0.0), origin, steps), finest),
+            Err(Refusal(19))
+        );
+    }
+    assert_eq!(
+        try_move(&S, ball(1e6, 0.0, 1.0), 1.0, travel(at(1e5, 0.0, 0.0), origin, 4096), finest),
+        Err(Refusal(5))
+    );
+    assert_eq!(
+        try_move(&S, ball(1e6, 0.0, 1.0), 1.0, travel(origin, at(1e5, 0.0, 0.0), 4096), finest),
+        Err(Refusal(5))
+    );
+    // A short axis that leans by little, far out: rounding tips it past the axis test.
+    let short = Body::Cylinder(bar(origin, at(1.513e-10, 0.0, 1.08e-6), 1.0));
+    assert!(try_move(&S, short, 1.0, still(1), finest).is_ok());
+    assert_eq!(try_move(&S, short, 1.0, travel(origin, at(5e5, 0.0, 0.0), 1), finest), Err(Refusal(11)));
+}
+
+#[test]
 fn verdicts() {
     let ball = Sphere { center: at(0.0, 0.0, 30.0), radius: 4.0 };
     assert_eq!(verdict_sphere(&S, ball, 6.0), Ok(false));

@@ -1,6 +1,7 @@
--- What an answer's case gives, an equal answer gives; bodies as they are read, and an assembly of them; what a pair
+-- What an answer's case gives, an equal answer gives; bodies as they are read, and an assembly of them; one body; what a pair
 -- gives fits its places.
 pub mod Same
 pub mod BodiesRead
 pub mod AssemblyRead
+pub mod OneBody
 pub mod Pairs

@@ -1,17 +1,12 @@
--- What a pair's answer puts into the lent places fits them; and a body's number before the call's own. By the answer's case.
-use Prim.Native.Nat.{ℕ, zero, suc, _≤_}
-use mathlib.Core.Bool.{Bool, true, false, not}
+-- What a pair's answer puts into the lent places fits them. By the answer's case.
+use Prim.Native.Nat.{ℕ, zero, suc}
 use mathlib.Core.List.{List}
-use mathlib.Core.Path.{_≡_, refl, sym, subst}
+use mathlib.Core.Path.{_≡_, sym, subst}
 use native.Mathlib.Nat.{le-trans}
-use native.Mathlib.Omega.{arith}
-use lib.Dec.{T, lit≤, eqb, eqb→eq}
-use lib.ListN.{length}
+use lib.Dec.{lit≤}
 use lib.Ieee.{Float}
 use Rattle.profile.specs.Refusals.{refusal, listTests}
 use Rattle.profile.specs.Replies.{Reply, value, reply, OfValue, Answers}
-use Rattle.profile.proofs.Each.{All, cons}
-use Rattle.profile.proofs.Refusals.Ordered.{Passes, none-applies}
 use Rattle.convex.specs.Convex.{convexDistance}
 use Rattle.settings.specs.Settings.{finest}
 use Rattle.walk.specs.declared.shapes.CountedHit.{CountedHit}
@@ -19,9 +14,8 @@ use Rattle.bodies.specs.Bodies.{aloneTests, bodyDistance, boxesOnly}
 use Rattle.bodies.specs.declared.shapes.Body.{Body}
 use Rattle.pairs.specs.Pairs.{Won, nearer, pairTests, pairAnswer, pairConvexAnswer, PairPromised, PairConvexPromised}
 use Rattle.pairs.proofs.Counts.{Small, pair-small, pair-convex-small}
-use Rattle.capi.specs.Interface.{Gives, Measures, Places, CylinderPlaces, cylinderPlaces, mark}
-use Rattle.capi.specs.Lists.{orElseReply}
-use Rattle.capi.specs.Pairs.{PairPlaces, FitsPlaces, WonFits, oneBodyTests, pairPlaces, wonPlaces}
+use Rattle.capi.specs.Interface.{Gives, Places, CylinderPlaces, cylinderPlaces, mark}
+use Rattle.capi.specs.Pairs.{PairPlaces, FitsPlaces, WonFits, pairPlaces, wonPlaces}
 
 small-fits : {h : CountedHit} → Small h → FitsPlaces h
 small-fits s = record { boxes = le-trans (s .boxes) (lit≤ tt); waiting = le-trans (s .waiting) (lit≤ tt); edge = s .edge }
@@ -59,28 +53,3 @@ pair-convex-fits chuck work c A =
 pub won-given : {a : Reply Won} {w : Won} {n k : ℕ} {p q : CylinderPlaces Places} {held : PairPlaces} → a ≡ value w
     → Gives cylinderPlaces (value (w .counted)) n p q → k ≡ mark (w .work) → Gives wonPlaces a n held (pairPlaces k q)
 won-given e g f = record { returned = rw e (g .returned); lent = rw (e, g .lent, f) }
-
--- a body's own number is the answer, and nothing that was lent changes
-pub body-refused : {P : Won → Type 0} {held : PairPlaces} (n : ℕ) (answer : Reply Won) → (n ≡ 0 → ⊥)
-    → Measures P wonPlaces (orElseReply n answer) n held held
-body-refused zero answer k = absurd (k refl)
-body-refused (suc n) answer k = record { gives = record { returned = refl; lent = refl }; owed = tt }
-
--- without one it is the call's
-pub body-taken : {P : Won → Type 0} {answer : Reply Won} {r : ℕ} {held end : PairPlaces} (n : ℕ) → n ≡ 0
-    → Measures P wonPlaces answer r held end → Measures P wonPlaces (orElseReply n answer) r held end
-body-taken n z m = rw z m
-
--- a body that is taken has seven numbers
-pub seven-given : (kind : ℕ) (l : List Float) → refusal (oneBodyTests kind l) ≡ 0 → 7 ≤ length l
-seven-given kind l e = go (none-applies (oneBodyTests kind l) tt e)
-  where
-    twice : (b : Bool) → T (not (not b)) → T b
-    twice true h = tt
-    twice false h = h
-
-    at-least : {n : ℕ} → n ≡ 7 → 7 ≤ n
-    at-least f = omega arith
-
-    go : All Passes (oneBodyTests kind l) → 7 ≤ length l
-    go (cons p q) = at-least (eqb→eq (length l) 7 (twice (eqb (length l) 7) p))

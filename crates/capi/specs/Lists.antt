@@ -23,6 +23,11 @@ use Rattle.assemblies.specs.Assemblies.{anyHit}
 abbrev pub otherKind : ℕ → Bool
 otherKind kind = ltb kind 2 || ltb 4 kind
 
+-- of one body
+abbrev pub oneBodyTests : ℕ → List Float → List Test
+oneBodyTests kind numbers = (1 when not (eqb (length numbers) 7)) ∷ (14 when otherKind kind) ∷ []
+
+-- of an assembly
 abbrev pub listsTests : List ℕ → List Float → List Test
 listsTests kinds numbers =
     (1 when not (eqb (length numbers) (7 * length kinds)))

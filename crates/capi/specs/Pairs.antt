@@ -1,18 +1,15 @@
 -- Chuck and work together, as C gives them: 1 where the body has not seven numbers, then 14 for another kind, both before all
 -- else. The winner is 0 for the chuck, 1 for the work; its hit, counts and mark stand in the places of a cylinder.
 use Prim.Native.Nat.{ℕ, _≤_}
-use mathlib.Core.Bool.{not}
-use mathlib.Core.List.{List, [], _∷_}
-use lib.Dec.{eqb}
+use mathlib.Core.List.{List}
 use lib.Ieee.{Float}
-use lib.ListN.{length}
-use Rattle.profile.specs.Refusals.{Test, _when_, refusal}
+use Rattle.profile.specs.Refusals.{refusal}
 use Rattle.profile.specs.Replies.{Reply}
 use Rattle.section.specs.Demand.{FewEdges}
 use Rattle.walk.specs.declared.shapes.CountedHit.{CountedHit}
 use Rattle.pairs.specs.Pairs.{Won, pairAnswer}
 use Rattle.capi.specs.Interface.{Places, CylinderPlaces, cylinderPlaces, mark}
-use Rattle.capi.specs.Lists.{otherKind, bodyAt, orElseReply}
+use Rattle.capi.specs.Lists.{oneBodyTests, bodyAt, orElseReply}
 
 pub record PairPlaces : Type 0 where
   pub winner : ℕ
@@ -23,9 +20,6 @@ pairPlaces winner counted = record { winner = winner; counted = counted }
 
 abbrev pub wonPlaces : Won → PairPlaces
 wonPlaces w = pairPlaces (mark (w .work)) (cylinderPlaces (w .counted))
-
-abbrev pub oneBodyTests : ℕ → List Float → List Test
-oneBodyTests kind numbers = (1 when not (eqb (length numbers) 7)) ∷ (14 when otherKind kind) ∷ []
 
 unfoldable pub pairOf : List Float → List Float → ℕ → List Float → Reply Won
 pairOf chuck work kind numbers =

@@ -15,7 +15,7 @@ use section::Answer;
 use settings::Settings;
 use walk::CountedHit;
 
-fn mark_of(cut: bool) -> u32
+pub fn mark_of(cut: bool) -> u32
     ensures { λ r. ⌜ r ≡ mark cut ⌝ }
 {
     if cut { 1 } else { 0 }

@@ -3,7 +3,8 @@ ghost use Prim.Native.Nat.{_≤_, _+_, _*_};
 ghost use mathlib.Core.Path.{_≡_};
 ghost use lib.ListN.{length, take};
 ghost use Rattle.profile.specs.Refusals.{refusal, anyOf};
-ghost use Rattle.capi.specs.Lists.{otherKind, listsTests, sphereAt, boxAt, cylinderAt, bodyAt, bodiesOf, frontOf};
+ghost use Rattle.capi.specs.Lists.{otherKind, oneBodyTests, listsTests};
+ghost use Rattle.capi.specs.Lists.{sphereAt, boxAt, cylinderAt, bodyAt, bodiesOf, frontOf};
 use arith::Vec3;
 use bands::Cylinder;
 use bodies::Body;
@@ -17,6 +18,19 @@ pub fn other_kind(kind: u32) -> bool
         return true;
     }
     4 < kind
+}
+
+// Of one body: number 1 where it has not seven numbers, then 14 for another kind.
+pub fn one_body_refusal(kind: u32, numbers: &[f64]) -> u32
+    ensures { λ r. ⌜ r ≡ refusal (oneBodyTests kind (now (numbers .entry))) ⌝ }
+{
+    if numbers.len() != 7 {
+        return 1;
+    }
+    if other_kind(kind) {
+        return 14;
+    }
+    0
 }
 
 fn any_other_kind(kinds: &[u32]) -> bool

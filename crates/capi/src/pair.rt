@@ -1,32 +1,18 @@
 // Chuck and work together: the winner, 0 the chuck or 1 the work, its distance, counts and mark.
 ghost use mathlib.Core.Path.{_≡_};
-ghost use Rattle.profile.specs.Refusals.{refusal};
 ghost use Rattle.profile.specs.Replies.{OfValue, value};
 ghost use Rattle.pairs.specs.Pairs.{told, won, pairConvexAnswer, PairPromised, PairConvexPromised};
 ghost use Rattle.capi.specs.Interface.{Gives, Measures, places, counts, both, mark};
 ghost use Rattle.capi.specs.Interface.{cylinderPlaces};
 ghost use Rattle.capi.specs.Lists.{bodyAt};
-ghost use Rattle.capi.specs.Pairs.{pairPlaces, wonPlaces, oneBodyTests, pairOf, FitsPlaces, WonFits};
+ghost use Rattle.capi.specs.Pairs.{pairPlaces, wonPlaces, pairOf, FitsPlaces, WonFits};
 use super::cylinder::give_counts;
 use super::distances::give;
 use super::lists::body_at;
-use super::lists::other_kind;
+use super::lists::one_body_refusal;
 use pairs::PairAnswer;
 use section::Answer;
 use walk::CountedHit;
-
-// Number 1 where the body has not seven numbers, then 14 for another kind.
-fn one_body_refusal(kind: u32, numbers: &[f64]) -> u32
-    ensures { λ r. ⌜ r ≡ refusal (oneBodyTests kind (now (numbers .entry))) ⌝ }
-{
-    if numbers.len() != 7 {
-        return 1;
-    }
-    if other_kind(kind) {
-        return 14;
-    }
-    0
-}
 
 // Puts a hit with its counts and mark into the lent places.
 fn give_counted(

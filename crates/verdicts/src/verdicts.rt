@@ -23,10 +23,16 @@ use settings::finest;
 // A distance this much below the clearance is still a touch.
 const TOUCH_SLACK: f64 = 1e-9;
 
+pub fn collides(distance: f64, clearance: f64) -> bool
+    ensures { λ r. ⌜ r ≡ collides distance clearance ⌝ }
+{
+    distance + TOUCH_SLACK < clearance
+}
+
 fn judged(distance: f64, clearance: f64) -> Verdict
     ensures { λ r. ⌜ told r ≡ value (collides distance clearance) ⌝ }
 {
-    if distance + TOUCH_SLACK < clearance {
+    if collides(distance, clearance) {
         return Verdict::Collision;
     }
     Verdict::Clear

@@ -30,7 +30,7 @@ pub enum Answer {
 }
 
 /// Zeros of both signs are one value, and so is every NaN.
-fn same(a: f64, b: f64) -> bool {
+pub fn same(a: f64, b: f64) -> bool {
     output_bits(a) == output_bits(b)
 }
 

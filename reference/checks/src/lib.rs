@@ -6,6 +6,7 @@ pub mod fixed;
 pub mod generate;
 pub mod judge;
 pub mod lifted;
+pub mod moves;
 #[cfg(feature = "mpfr")]
 pub mod mpfr;
 pub mod near;

@@ -1,11 +1,13 @@
-//! Document 01's table of refusals, numbers 1 to 11, with requests (iii)'s 17, (vi)'s 18 and (xi)'s 6, and its builder rules,
-//! written from their text.
+//! Document 01's table of refusals, numbers 1 to 11, with requests (iii)'s 17, (vi)'s 18, (ix)'s 19 and (xi)'s 6, and its builder
+//! rules, written from their text.
 //! Each call has one list of tests, written in the order in which it tests: the first that is true gives the number.
 
 mod builder;
+mod moves;
 mod pairs;
 
 pub use builder::{Built, build_polygon, build_section};
+pub use moves::before_placing;
 pub use pairs::{pair_box, pair_convex, pair_cylinder, pair_sphere};
 
 /// Largest magnitude of a given coordinate, bound, radius or clearance.
@@ -101,7 +103,7 @@ pub fn cylinder(section: &[f64], body: [f64; 7], settings: Settings, more: &[f64
     first(&[&vertices(&[section]), &numbers(&[section, &body, more]), &own])
 }
 
-/// A body of request (iii)'s assembly, its numbers as above.
+/// A body of request (iii)'s assembly or (ix)'s move, its numbers as above.
 #[derive(Clone, Copy, Debug)]
 pub enum Body {
     Sphere([f64; 4]),
@@ -117,14 +119,18 @@ impl Body {
         }
     }
 
+    /// 9, 10 and 11, where they can apply.
+    fn own(&self) -> Vec<Test> {
+        match *self {
+            Body::Sphere(body) => vec![(9, body[3] < 0.0)],
+            Body::Box([z0, z1, r0, r1]) => vec![(10, z1 < z0 || r1 < r0)],
+            Body::Cylinder(body) => vec![(9, body[6] < 0.0), (11, axis(body).is_none())],
+        }
+    }
+
     /// Whether it is well formed by itself.
-    fn alone(&self) -> Result<(), u32> {
-        let own: &[Test] = match *self {
-            Body::Sphere(body) => &[(9, body[3] < 0.0)],
-            Body::Box([z0, z1, r0, r1]) => &[(10, z1 < z0 || r1 < r0)],
-            Body::Cylinder(body) => &[(9, body[6] < 0.0), (11, axis(body).is_none())],
-        };
-        first(&[&numbers(&[self.numbers()]), own])
+    pub fn alone(&self) -> Result<(), u32> {
+        first(&[&numbers(&[self.numbers()]), &self.own()])
     }
 }
 

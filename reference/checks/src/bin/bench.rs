@@ -2,7 +2,7 @@
 
 use checks::judge::vertices;
 use checks::random::Random;
-use jorghipa::{Aabb, Cylinder, Point, Settings, Sphere};
+use jorghipa::{Aabb, Cylinder, Point, Settings, Sphere, Travel};
 use std::hint::black_box;
 use std::time::{Duration, Instant};
 
@@ -213,6 +213,53 @@ fn assemblies(least: Duration) {
     }
 }
 
+/// From z -40 to z 240, in 4,096 steps.
+const TRAVEL: Travel =
+    Travel { start: Point { x: 0.0, y: 0.0, z: -40.0 }, end: Point { x: 0.0, y: 0.0, z: 240.0 }, steps: 4096 };
+
+/// The first smallest distance of all steps and whether one collides, by `distance` of the offset in z.
+fn by_steps(distance: impl Fn(f64) -> f64) -> (f64, u32, bool) {
+    let Travel { start, end, steps } = TRAVEL;
+    (0..=steps).fold((f64::INFINITY, 0, false), |(best, step, hits), i| {
+        let d = distance(start.z + (end.z - start.z) * f64::from(i) / f64::from(steps));
+        let (best, step) = if d < best { (d, i) } else { (best, step) };
+        (best, step, hits || d + 1e-9 < CLEARANCE)
+    })
+}
+
+macro_rules! rust_moves {
+    ($copy:ident, $points:expr, $once:expr) => {{
+        use $copy::{Vec3, aabb_polygon_distance};
+        let (points, solid) = ($points, $copy::probe::solid($points));
+        let far = |z| aabb_polygon_distance(z, z + 5.0, 60.0, 70.0, points).map_or(f64::NAN, |hit| hit.0);
+        [
+            over($once, move |()| {
+                by_steps(|z| solid.signed_distance(Vec3::new(60.0, 0.0, z)).map_or(f64::NAN, |d| d - 2.0))
+            }),
+            over($once, move |()| by_steps(far)),
+        ]
+    }};
+}
+
+/// A sphere and a box led along the section in 4,096 steps. The Rust has no such call: it asks for each step.
+fn moves(least: Duration) {
+    for count in [4, 16, 64] {
+        let list = section(count);
+        let (list, points, once) = (list.as_slice(), vertices(&list), [()]);
+        let ball = Sphere { center: Point { x: 60.0, y: 0.0, z: 0.0 }, radius: 2.0 };
+        let bodies = [jorghipa::Body::Sphere(ball), jorghipa::Body::Box(Aabb { z0: 0.0, z1: 5.0, r0: 60.0, r1: 70.0 })];
+        let port = bodies
+            .map(|body| over(&once, move |()| jorghipa::try_move(list, body, CLEARANCE, TRAVEL, Settings::FINEST)));
+        let (libm, exact) = (rust_moves!(revolve_libm, &points, &once), rust_moves!(revolve_exact, &points, &once));
+        for (((name, libm), exact), port) in ["sphere", "box"].into_iter().zip(libm).zip(exact).zip(port) {
+            print_row(
+                Row { name: format!("4,096 steps of a {name}"), vertices: count, ways: [libm, exact, port] },
+                least,
+            );
+        }
+    }
+}
+
 fn roots(least: Duration) {
     let mut random = Random::new(2, 0);
     let pairs: Vec<(f64, f64)> = (0..1024).map(|_| (random.between(-50.0, 150.0), random.between(0.0, 60.0))).collect();
@@ -256,6 +303,7 @@ fn main() {
     println!("|---|---:|---:|---:|---:|---:|");
     queries(least);
     assemblies(least);
+    moves(least);
     cylinders(least);
     roots(least);
 }

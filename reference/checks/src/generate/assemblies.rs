@@ -5,7 +5,7 @@ use crate::assembly::Assembly;
 use crate::random::Random;
 use table::Body;
 
-fn body(random: &mut Random, style: Style, section: &[(f64, f64)]) -> Body {
+pub fn body(random: &mut Random, style: Style, section: &[(f64, f64)]) -> Body {
     let exact = "a generator makes all numbers of its body";
     match random.below(3) {
         0 => Body::Sphere(bodies::sphere(random, style, section).try_into().expect(exact)),
@@ -15,7 +15,7 @@ fn body(random: &mut Random, style: Style, section: &[(f64, f64)]) -> Body {
 }
 
 /// Bad by itself: 4, 5, 9, 10 or 11.
-fn bad_body(random: &mut Random) -> Body {
+pub fn bad_body(random: &mut Random) -> Body {
     let sphere = |x, radius| Body::Sphere([x, 0.0, 10.0, radius]);
     random.pick(&[
         sphere(f64::NAN, -1.0),
@@ -29,7 +29,7 @@ fn bad_body(random: &mut Random) -> Body {
     ])
 }
 
-fn bad_section(random: &mut Random, section: &mut Vec<f64>) {
+pub fn bad_section(random: &mut Random, section: &mut Vec<f64>) {
     let i = random.below(section.len());
     match random.below(6) {
         0 => section.push(1.0),

@@ -3,11 +3,13 @@
 mod assemblies;
 mod bodies;
 mod malformed;
+mod moves;
 mod sections;
 
 use crate::query::{Kind, Query};
 use crate::random::Random;
 pub use assemblies::assembly;
+pub use moves::{any_move, short_move, tipping};
 pub use sections::{list, rotated, section};
 
 /// Sizes of coordinates.

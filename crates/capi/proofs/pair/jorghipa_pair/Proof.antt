@@ -2,7 +2,8 @@
 use borrow.Author.Needs.{needs}
 use mathlib.Core.Path.{sym, _∙_}
 use Rattle.capi.specs.Pairs.{pairOf}
-use Rattle.capi.proofs.Pairs.{body-refused, body-taken, pair-fits, seven-given}
+use Rattle.capi.proofs.OneBody.{body-refused, body-taken, seven-given}
+use Rattle.capi.proofs.Pairs.{pair-fits}
 use Rattle.capi.proofs.Same.{measures}
 use Rattle.capi.proofs.pair.jorghipa_pair.Statement.{statement}
 use Rattle.capi.proofs.pair.jorghipa_pair.Tie as tie

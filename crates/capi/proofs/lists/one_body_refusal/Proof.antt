@@ -1,9 +1,9 @@
--- `capi::pair::one_body_refusal` meets its contract.
+-- `capi::lists::one_body_refusal` meets its contract.
 use borrow.Author.Needs.{needs}
 use borrow.Author.Tests.{eq-eqb, ne-eqb}
 use Rattle.profile.specs.Refusals.{refusal}
-use Rattle.capi.proofs.pair.one_body_refusal.Statement.{statement}
-use Rattle.capi.proofs.pair.one_body_refusal.Tie as tie
+use Rattle.capi.proofs.lists.one_body_refusal.Statement.{statement}
+use Rattle.capi.proofs.lists.one_body_refusal.Tie as tie
 
 returns : tie.Need-returns
 unfolding refusal

@@ -1,0 +1,104 @@
+// Trying a move: the report in the lent places.
+ghost use Rattle.arith.specs.Vector.{vec};
+ghost use Rattle.settings.specs.Settings.{settings};
+ghost use Rattle.moves.specs.Moves.{told, MovePromised};
+ghost use Rattle.capi.specs.Interface.{Gives, Measures};
+ghost use Rattle.capi.specs.Lists.{bodyAt};
+ghost use Rattle.capi.specs.Moves.{movePlaces, reportPlaces, travel, moveOf};
+use super::cylinder::mark_of;
+use super::lists::body_at;
+use super::lists::one_body_refusal;
+use arith::Vec3;
+use moves::MoveAnswer;
+use moves::Travel;
+use settings::Settings;
+
+// Puts a report into the lent places, and gives the number of a refusal.
+fn give_report(
+    answer: MoveAnswer,
+    distance: &mut f64,
+    step: &mut u32,
+    collides: &mut u32,
+    colliding_step: &mut u32,
+    boxes: &mut u32,
+) -> u32
+    ensures { λ r. ⌜ Gives reportPlaces (told answer) r
+        (movePlaces (now (distance .entry)) (now (step .entry)) (now (collides .entry)) (now («colliding_step» .entry))
+        (now (boxes .entry)))
+        (movePlaces (now (distance .exit)) (now (step .exit)) (now (collides .exit)) (now («colliding_step» .exit))
+        (now (boxes .exit))) ⌝ }
+{
+    match answer {
+        MoveAnswer::Moved(r) => {
+            *distance = r.distance;
+            *step = r.step;
+            *collides = mark_of(r.collides);
+            *colliding_step = r.colliding_step;
+            *boxes = r.boxes;
+            0
+        }
+        MoveAnswer::Refused(n) => n,
+    }
+}
+
+#[no_mangle]
+pub extern "C" fn jorghipa_move(
+    section: &[f64],
+    kind: u32,
+    numbers: &[f64],
+    clearance: f64,
+    start_x: f64,
+    start_y: f64,
+    start_z: f64,
+    end_x: f64,
+    end_y: f64,
+    end_z: f64,
+    steps: u32,
+    tolerance: f64,
+    most: u32,
+    intervals: u32,
+    distance: &mut f64,
+    step: &mut u32,
+    collides: &mut u32,
+    colliding_step: &mut u32,
+    boxes: &mut u32,
+) -> u32
+    ensures { λ r. ⌜
+        (let s = now (section .entry) in let n = now (numbers .entry) in
+        let v = travel (vec «start_x» «start_y» «start_z») (vec «end_x» «end_y» «end_z») steps in
+        let t = settings tolerance most intervals in
+        Measures (MovePromised s (bodyAt kind n 0) v t) reportPlaces (moveOf s kind n clearance v t) r
+        (movePlaces (now (distance .entry)) (now (step .entry)) (now (collides .entry)) (now («colliding_step» .entry))
+        (now (boxes .entry)))
+        (movePlaces (now (distance .exit)) (now (step .exit)) (now (collides .exit)) (now («colliding_step» .exit))
+        (now (boxes .exit)))) ⌝ }
+{
+    let number = one_body_refusal(kind, numbers);
+    if number != 0 {
+        return number;
+    }
+    let start = Vec3 {
+        x: start_x,
+        y: start_y,
+        z: start_z,
+    };
+    let end = Vec3 {
+        x: end_x,
+        y: end_y,
+        z: end_z,
+    };
+    let settings = Settings {
+        tolerance,
+        most,
+        intervals,
+    };
+    let body = body_at(kind, numbers, 0);
+    let answer = moves::try_move(
+        section,
+        body,
+        clearance,
+        Travel { start, end, steps },
+        settings,
+    );
+    give_report(answer, distance, step, collides, colliding_step, boxes)
+}
