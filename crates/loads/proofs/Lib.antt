@@ -1,0 +1,1 @@
+-- The laws that the proofs of the load's functions share, and what is shown of every load.
