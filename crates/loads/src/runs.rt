@@ -49,13 +49,13 @@ fn sphere_next(n: usize, j: usize) -> u64
 // Sphere j behind n vertices.
 fn put_sphere(space: &mut [u8], n: usize, j: usize, state: u64) -> u64
     requires { ⌜ (n ≤ 256) × (j < 32) × (length (now space) ≡ 20480) ⌝ }
-    ensures { λ r. ⌜ Drawn (now (space .entry)) ((n + j) * 40 + 40) (sphereRecord n j state) (now (space .exit)) (stateAfter state 4) r ⌝ }
+    ensures { λ r. ⌜ Drawn (now (space .entry)) (n * 40 + 40 + j * 40) (sphereRecord n j state) (now (space .exit)) (stateAfter state 4) r ⌝ }
 {
     let s = xorshift(state);
     let t = xorshift(s);
     let u = xorshift(t);
     let v = xorshift(u);
-    let at = (n + j) * 40 + 40;
+    let at = n * 40 + 40 + j * 40;
     put_record(space, at, sphere_next(n, j), 2, coordinate_bits(s), coordinate_bits(t), coordinate_bits(u), radius_bits(v));
     v
 }

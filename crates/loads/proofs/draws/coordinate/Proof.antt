@@ -1,0 +1,19 @@
+-- `loads::draws::coordinate` is its definition; a remainder is small enough to be cast.
+use native.Mathlib.Omega.{arith}
+use mathlib.Core.Path.{refl}
+use Rattle.loads.specs.Load.{coordinate}
+use Rattle.loads.proofs.Coordinates.{whole-float}
+use Rattle.loads.proofs.draws.coordinate.Statement.{statement}
+use Rattle.loads.proofs.draws.coordinate.Tie as tie
+
+-- src/draws.rt:20:6
+int-to-float-result : tie.Need-int-to-float-result
+int-to-float-result c = whole-float _ (omega arith)
+
+-- src/draws.rt:17:1
+returns : tie.Need-returns
+unfolding coordinate
+returns c = refl
+
+pub coordinate-spec : {M : Type 1} → statement M
+coordinate-spec = tie.close (tie.spec int-to-float-result returns)

@@ -1,0 +1,25 @@
+-- `loads::draws::radius_bits`. A radius is no NaN.
+use Rattle.loads.proofs.Coordinates.{no-nan, radius-ranged}
+use borrow.Author.Needs.{needs}
+use Rattle.loads.proofs.draws.radius_bits.Statement.{statement}
+use Rattle.loads.proofs.draws.radius_bits.Tie as tie
+
+-- src/draws.rt:32:29
+coordinate-requires : tie.Need-coordinate-requires
+coordinate-requires c κs = search needs
+
+-- src/draws.rt:32:18
+abs-requires : tie.Need-abs-requires
+abs-requires c κs = search needs
+
+-- src/draws.rt:32:5
+float-to-bits-result : tie.Need-float-to-bits-result
+float-to-bits-result c = rw (c .abs .ensures, c .before .coordinate .ensures) (no-nan _ _ (radius-ranged _))
+
+-- src/draws.rt:29:1
+returns : tie.Need-returns
+returns c = rw (c .abs .ensures, c .before .coordinate .ensures)
+
+pub radius-bits-spec : {M : Type 1} → statement M
+radius-bits-spec =
+    tie.close (tie.spec coordinate-requires abs-requires float-to-bits-result returns)

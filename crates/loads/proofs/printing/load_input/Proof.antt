@@ -1,0 +1,27 @@
+-- `loads::printing::load_input` prints what its definition says.
+use Rattle.loads.specs.Printed.{inputText}
+use borrow.Author.Needs.{needs}
+use Rattle.loads.proofs.printing.load_input.Statement.{statement}
+use Rattle.loads.proofs.printing.load_input.Tie as tie
+
+-- src/printing.rt:76:9
+seed-of-requires : tie.Need-seed-of-requires
+seed-of-requires c κs = search needs
+
+-- src/printing.rt:77:9
+u64-at-requires : tie.Need-u64-at-requires
+u64-at-requires c κs = search needs
+
+-- src/printing.rt:78:5
+put-answer-requires : tie.Need-put-answer-requires
+put-answer-requires c κs = search needs
+
+-- src/printing.rt:72:1
+returns : tie.Need-returns
+unfolding inputText
+returns c =
+    let c₂ = c .before .before in
+    rw (← c₂ .before .seed-of .ensures, ← c₂ .u64-at .ensures) (c .put-answer .ensures)
+
+pub load-input-spec : {M : Type 1} → statement M
+load-input-spec = tie.close (tie.spec seed-of-requires u64-at-requires put-answer-requires returns)
