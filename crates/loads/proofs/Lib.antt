@@ -8,3 +8,4 @@ pub mod Lines
 pub mod Accepted
 pub mod Answered
 pub mod WholeInput
+pub mod Ranges

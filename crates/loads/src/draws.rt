@@ -29,5 +29,7 @@ pub fn coordinate_bits(state: u64) -> u64
 pub fn radius_bits(state: u64) -> u64
     ensures { λ r. ⌜ r ≡ toBits binary64 (abs (load·specs.coordinate state)) ⌝ }
 {
-    f64::to_bits(arith::abs(coordinate(state)))
+    let x = coordinate(state);
+    let y = arith::abs(x);
+    f64::to_bits(y)
 }

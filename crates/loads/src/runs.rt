@@ -40,10 +40,11 @@ fn sphere_next(n: usize, j: usize) -> u64
     requires { ⌜ (n ≤ 256) × (j < 32) ⌝ }
     ensures { λ r. ⌜ r ≡ sphereNext n j ⌝ }
 {
+    let own = (n + j + 1) as u64;
     if j == 31 {
         return 0;
     }
-    (n + j + 2) as u64
+    own + 1
 }
 
 // Sphere j behind n vertices.

@@ -6,11 +6,9 @@ use Rattle.loads.proofs.Coordinates.{whole-float}
 use Rattle.loads.proofs.draws.coordinate.Statement.{statement}
 use Rattle.loads.proofs.draws.coordinate.Tie as tie
 
--- src/draws.rt:20:6
 int-to-float-result : tie.Need-int-to-float-result
 int-to-float-result c = whole-float _ (omega arith)
 
--- src/draws.rt:17:1
 returns : tie.Need-returns
 unfolding coordinate
 returns c = refl

@@ -4,15 +4,12 @@ use borrow.Author.Needs.{needs}
 use Rattle.loads.proofs.draws.coordinate_bits.Statement.{statement}
 use Rattle.loads.proofs.draws.coordinate_bits.Tie as tie
 
--- src/draws.rt:26:18
 coordinate-requires : tie.Need-coordinate-requires
 coordinate-requires c κs = search needs
 
--- src/draws.rt:26:5
 float-to-bits-result : tie.Need-float-to-bits-result
 float-to-bits-result c = rw (c .coordinate .ensures) (no-nan _ _ (coordinate-ranged _))
 
--- src/draws.rt:23:1
 returns : tie.Need-returns
 returns c = rw (c .coordinate .ensures)
 

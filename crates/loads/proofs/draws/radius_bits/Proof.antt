@@ -4,19 +4,15 @@ use borrow.Author.Needs.{needs}
 use Rattle.loads.proofs.draws.radius_bits.Statement.{statement}
 use Rattle.loads.proofs.draws.radius_bits.Tie as tie
 
--- src/draws.rt:32:29
 coordinate-requires : tie.Need-coordinate-requires
 coordinate-requires c κs = search needs
 
--- src/draws.rt:32:18
 abs-requires : tie.Need-abs-requires
 abs-requires c κs = search needs
 
--- src/draws.rt:32:5
 float-to-bits-result : tie.Need-float-to-bits-result
 float-to-bits-result c = rw (c .abs .ensures, c .before .coordinate .ensures) (no-nan _ _ (radius-ranged _))
 
--- src/draws.rt:29:1
 returns : tie.Need-returns
 returns c = rw (c .abs .ensures, c .before .coordinate .ensures)
 

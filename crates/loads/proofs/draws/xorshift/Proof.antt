@@ -4,7 +4,6 @@ use Rattle.loads.specs.Xorshift.{xorshift}
 use Rattle.loads.proofs.draws.xorshift.Statement.{statement}
 use Rattle.loads.proofs.draws.xorshift.Tie as tie
 
--- src/draws.rt:9:1
 returns : tie.Need-returns
 unfolding xorshift
 returns c = refl

@@ -23,13 +23,11 @@ abbrev put-bytes-below : ℕ → In 1 put-bytes-kinds.ps
 put-bytes-below t =
     and 1 put-bytes-kinds.ps (falls 1 put-bytes-kinds.ps _<_ μ-put-bytes t) put-bytes.Pre
 
--- src/fields.rt:15:9
 put-bytes-returns :
     (t : ℕ) →
     put-bytes-lts.Need-returns (put-bytes-below t, put-bytes.Post) (put-bytes-at t) put-bytes.Post
 put-bytes-returns t c = low-none _ _ _ _ (c .if1 .taken)
 
--- src/fields.rt:17:17
 put-bytes-cast-space :
     (t : ℕ) →
     put-bytes-lts.Need-cast-space
@@ -38,35 +36,30 @@ put-bytes-cast-space :
     put-bytes.Post
 put-bytes-cast-space t c = search needs
 
--- src/fields.rt:17:5
 put-bytes-slice-write-space : (t : ℕ) → put-bytes-lts.Need-slice-write-space (
   put-bytes-below t,
   put-bytes.Post,
 ) (put-bytes-at t) put-bytes.Post
 put-bytes-slice-write-space t c = search needs
 
--- src/fields.rt:18:22
 put-bytes-add-put-bytes : (t : ℕ) → put-bytes-lts.Need-add-put-bytes (
   put-bytes-below t,
   put-bytes.Post,
 ) (put-bytes-at t) put-bytes.Post
 put-bytes-add-put-bytes t c = search needs
 
--- src/fields.rt:18:39
 put-bytes-sub-put-bytes : (t : ℕ) → put-bytes-lts.Need-sub-put-bytes (
   put-bytes-below t,
   put-bytes.Post,
 ) (put-bytes-at t) put-bytes.Post
 put-bytes-sub-put-bytes t c = search needs
 
--- src/fields.rt:18:5
 put-bytes-put-bytes-requires : (t : ℕ) → put-bytes-lts.Need-put-bytes-requires (
   put-bytes-below t,
   put-bytes.Post,
 ) (put-bytes-at t) put-bytes.Post
 put-bytes-put-bytes-requires t c κs = (omega arith, simp length-set (omega (arith, c .before .before .before .pre .1)))
 
--- src/fields.rt:10:1
 put-bytes-same-length : (t : ℕ) → put-bytes-lts.Need-same-length (
   put-bytes-below t,
   put-bytes.Post,
@@ -76,7 +69,6 @@ put-bytes-same-length t c =
     low-length (a .space .now) (a .at) (a .n % 256) (a .at + 1) (lowBytes (a .k - 1) (a .n / 256))
     (c .before .before .put-bytes .ensures .text)
 
--- src/fields.rt:10:1
 put-bytes-returns-2 :
     (t : ℕ) →
     put-bytes-lts.Need-returns-2

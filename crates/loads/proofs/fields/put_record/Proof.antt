@@ -7,50 +7,42 @@ use borrow.Author.Needs.{needs}
 use Rattle.loads.proofs.fields.put_record.Statement.{statement}
 use Rattle.loads.proofs.fields.put_record.Tie as tie
 
--- src/fields.rt:26:9
 put-bytes-requires : tie.Need-put-bytes-requires
 put-bytes-requires c κs = search needs
 
--- src/fields.rt:27:9
 put-bytes-requires-2 : tie.Need-put-bytes-requires-2
 put-bytes-requires-2 c κs =
     let start = c .before .before .before .before .before .before in
     let a = start .args in
     omega (arith, length-low 4 (a .next), start .pre)
 
--- src/fields.rt:28:9
 put-bytes-requires-3 : tie.Need-put-bytes-requires-3
 put-bytes-requires-3 c κs =
     let start = c .before .before .before .before .before .before .before .before .before .before in
     let a = start .args in
     omega (arith, length-low 4 (a .next), length-low 4 (a .kind), start .pre)
 
--- src/fields.rt:29:9
 put-bytes-requires-4 : tie.Need-put-bytes-requires-4
 put-bytes-requires-4 c κs =
     let start = c .before .before .before .before .before .before .before .before .before .before .before .before .before .before in
     let a = start .args in
     omega (arith, length-low 4 (a .next), length-low 4 (a .kind), length-low 8 (a .a), start .pre)
 
--- src/fields.rt:30:9
 put-bytes-requires-5 : tie.Need-put-bytes-requires-5
 put-bytes-requires-5 c κs =
     let start = c .before .before .before .before .before .before .before .before .before .before .before .before .before .before .before .before .before .before in
     let a = start .args in
     omega (arith, length-low 4 (a .next), length-low 4 (a .kind), length-low 8 (a .a), length-low 8 (a .b), start .pre)
 
--- src/fields.rt:31:5
 put-bytes-requires-6 : tie.Need-put-bytes-requires-6
 put-bytes-requires-6 c κs =
     let start = c .before .before .before .before .before .before .before .before .before .before .before .before .before .before .before .before .before .before .before .before .before .before in
     let a = start .args in
     omega (arith, length-low 4 (a .next), length-low 4 (a .kind), length-low 8 (a .a), length-low 8 (a .b), length-low 8 (a .c), start .pre)
 
--- src/fields.rt:22:1
 same-length : tie.Need-same-length
 same-length c = search needs
 
--- src/fields.rt:22:1
 returns : tie.Need-returns
 unfolding recordBytes
 returns c =

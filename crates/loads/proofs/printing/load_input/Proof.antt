@@ -4,19 +4,15 @@ use borrow.Author.Needs.{needs}
 use Rattle.loads.proofs.printing.load_input.Statement.{statement}
 use Rattle.loads.proofs.printing.load_input.Tie as tie
 
--- src/printing.rt:76:9
 seed-of-requires : tie.Need-seed-of-requires
 seed-of-requires c κs = search needs
 
--- src/printing.rt:77:9
 u64-at-requires : tie.Need-u64-at-requires
 u64-at-requires c κs = search needs
 
--- src/printing.rt:78:5
 put-answer-requires : tie.Need-put-answer-requires
 put-answer-requires c κs = search needs
 
--- src/printing.rt:72:1
 returns : tie.Need-returns
 unfolding inputText
 returns c =

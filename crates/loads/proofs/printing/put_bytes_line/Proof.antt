@@ -8,29 +8,24 @@ use borrow.Author.Needs.{needs}
 use Rattle.loads.proofs.printing.put_bytes_line.Statement.{statement}
 use Rattle.loads.proofs.printing.put_bytes_line.Tie as tie
 
--- src/printing.rt:36:9
 put-digits-requires : tie.Need-put-digits-requires
 put-digits-requires c κs =
     let start = c .before .before .before in
     let l = start .args .bytes .now in
     omega (arith, length-digits l, length-bytes-line l, start .pre)
 
--- src/printing.rt:37:23
 slice-aggregate-put-word : tie.Need-slice-aggregate-put-word
 slice-aggregate-put-word c = search needs
 
--- src/printing.rt:37:5
 put-word-requires : tie.Need-put-word-requires
 put-word-requires c κs =
     let start = c .before .before .before .before .before .before .before .before in
     let l = start .args .bytes .now in
     omega (arith, length-digits l, length-bytes-line l, start .pre)
 
--- src/printing.rt:32:1
 same-length : tie.Need-same-length
 same-length c = search needs
 
--- src/printing.rt:32:1
 returns : tie.Need-returns
 unfolding bytesLine text
 returns c =

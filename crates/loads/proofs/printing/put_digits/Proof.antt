@@ -21,35 +21,28 @@ Inv-loop bytes text₀ at₀ i₀ text at i =
 abbrev μ-loop : tie.MeasureT-loop
 μ-loop bytes text₀ at₀ i₀ text at i = length bytes - i
 
--- src/printing.rt:25:5
 loop-holds : tie.Need-loop-holds Inv-loop μ-loop
 unfolding flatMap
 loop-holds c = (search needs, refl, nothing-written _ _)
 
--- src/printing.rt:26:32
 shared-slice-read-put-hex : tie.Need-shared-slice-read-put-hex Inv-loop μ-loop
 shared-slice-read-put-hex c = search needs
 
--- src/printing.rt:26:32
 cast-put-hex : tie.Need-cast-put-hex Inv-loop μ-loop
 cast-put-hex c = omega (arith, c .shared-slice-known2 .given (c .before .before .before .loop .i))
 
--- src/printing.rt:26:9
 put-hex-requires : tie.Need-put-hex-requires Inv-loop μ-loop
 put-hex-requires c κs =
     let c₂ = c .before .before in
     let c₃ = c₂ .before in
     digits-room _ _ (c₂ .loop-test .taken) (c₃ .loop .inv .2) (c₃ .before .before .before .pre)
 
--- src/printing.rt:27:9
 add-i : tie.Need-add-i Inv-loop μ-loop
 add-i c = search needs
 
--- src/printing.rt:25:5
 loop-less : tie.Need-loop-less Inv-loop μ-loop
 loop-less c = search needs
 
--- src/printing.rt:25:5
 loop-again : tie.Need-loop-again Inv-loop μ-loop
 loop-again c =
     let c₂ = c .before .before in
@@ -57,11 +50,9 @@ loop-again c =
     let c₆ = c₅ .before in
     (search needs, search needs, line-more _ _ _ (c₅ .loop-test .taken) (c₆ .loop .inv .2) (c₂ .put-hex .ensures))
 
--- src/printing.rt:19:1
 same-length : tie.Need-same-length Inv-loop μ-loop
 same-length c = search needs
 
--- src/printing.rt:19:1
 returns : tie.Need-returns Inv-loop μ-loop
 returns c = rw (take-all _ _ (c .loop-test .left)) at (c .before .loop .inv .2)
 

@@ -8,34 +8,27 @@ use borrow.Author.Needs.{needs}
 use Rattle.loads.proofs.printing.put_refused_line.Statement.{statement}
 use Rattle.loads.proofs.printing.put_refused_line.Tie as tie
 
--- src/printing.rt:44:31
 slice-aggregate-put-word : tie.Need-slice-aggregate-put-word
 slice-aggregate-put-word c = search needs
 
--- src/printing.rt:44:9
 put-word-requires : tie.Need-put-word-requires
 unfolding refusedLine text
 put-word-requires c κs = omega (arith, simp length-append at (c .before .before .before .pre))
 
--- src/printing.rt:45:9
 put-decimal-requires : tie.Need-put-decimal-requires
 unfolding refusedLine text
 put-decimal-requires c κs = omega (arith, simp length-append at (c .before .before .before .before .before .before .before .pre))
 
--- src/printing.rt:46:23
 slice-aggregate-put-word-2 : tie.Need-slice-aggregate-put-word-2
 slice-aggregate-put-word-2 c = search needs
 
--- src/printing.rt:46:5
 put-word-requires-2 : tie.Need-put-word-requires-2
 unfolding refusedLine text
 put-word-requires-2 c κs = omega (arith, simp length-append at (c .before .before .before .before .before .before .before .before .before .before .before .before .pre))
 
--- src/printing.rt:40:1
 same-length : tie.Need-same-length
 same-length c = search needs
 
--- src/printing.rt:40:1
 returns : tie.Need-returns
 unfolding refusedLine text
 returns c =

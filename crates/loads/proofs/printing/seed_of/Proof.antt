@@ -5,16 +5,13 @@ use borrow.Author.Needs.{needs}
 use Rattle.loads.proofs.printing.seed_of.Statement.{statement}
 use Rattle.loads.proofs.printing.seed_of.Tie as tie
 
--- src/printing.rt:65:9
 u64-at-requires : tie.Need-u64-at-requires
 u64-at-requires c κs = search needs
 
--- src/printing.rt:65:9
 returns : tie.Need-returns
 unfolding seedOf
 returns c = rw (eq-eqb _ _ (c .before .if1 .taken)) (c .u64-at .ensures)
 
--- src/printing.rt:61:1
 returns-2 : tie.Need-returns-2
 unfolding seedOf
 returns-2 c = rw (ne-eqb _ _ (c .if1 .left))

@@ -4,67 +4,51 @@ use borrow.Author.Needs.{needs}
 use Rattle.loads.proofs.runs.put_sphere.Statement.{statement}
 use Rattle.loads.proofs.runs.put_sphere.Tie as tie
 
--- src/runs.rt:54:9
 xorshift-requires : tie.Need-xorshift-requires
 xorshift-requires c κs = search needs
 
--- src/runs.rt:55:9
 xorshift-requires-2 : tie.Need-xorshift-requires-2
 xorshift-requires-2 c κs = search needs
 
--- src/runs.rt:56:9
 xorshift-requires-3 : tie.Need-xorshift-requires-3
 xorshift-requires-3 c κs = search needs
 
--- src/runs.rt:57:9
 xorshift-requires-4 : tie.Need-xorshift-requires-4
 xorshift-requires-4 c κs = search needs
 
--- src/runs.rt:58:14
 mul-at : tie.Need-mul-at
 mul-at c = search needs
 
--- src/runs.rt:58:14
 add-at : tie.Need-add-at
 add-at c = search needs
 
--- src/runs.rt:58:28
 mul-at-2 : tie.Need-mul-at-2
 mul-at-2 c = search needs
 
--- src/runs.rt:58:14
 add-at-2 : tie.Need-add-at-2
 add-at-2 c = search needs
 
--- src/runs.rt:59:27
 sphere-next-requires : tie.Need-sphere-next-requires
 sphere-next-requires c κs = search needs
 
--- src/runs.rt:59:49
 coordinate-bits-requires : tie.Need-coordinate-bits-requires
 coordinate-bits-requires c κs = search needs
 
--- src/runs.rt:59:69
 coordinate-bits-requires-2 : tie.Need-coordinate-bits-requires-2
 coordinate-bits-requires-2 c κs = search needs
 
--- src/runs.rt:59:89
 coordinate-bits-requires-3 : tie.Need-coordinate-bits-requires-3
 coordinate-bits-requires-3 c κs = search needs
 
--- src/runs.rt:59:109
 radius-bits-requires : tie.Need-radius-bits-requires
 radius-bits-requires c κs = search needs
 
--- src/runs.rt:59:5
 put-record-requires : tie.Need-put-record-requires
 put-record-requires c κs = search needs
 
--- src/runs.rt:50:1
 same-length : tie.Need-same-length
 same-length c = search needs
 
--- src/runs.rt:50:1
 returns : tie.Need-returns
 returns c =
     let c₂ = c .before .before in

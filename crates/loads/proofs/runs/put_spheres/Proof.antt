@@ -18,33 +18,26 @@ Inv-loop space₀ state0 n state₀ j₀ space state j =
 abbrev μ-loop : tie.MeasureT-loop
 μ-loop space₀ state0 n state₀ j₀ space state j = 32 - j
 
--- src/runs.rt:70:5
 loop-holds : tie.Need-loop-holds Inv-loop μ-loop
 loop-holds c = (search needs, refl, spheres-none _ _ _)
 
--- src/runs.rt:71:9
 put-sphere-requires : tie.Need-put-sphere-requires Inv-loop μ-loop
 put-sphere-requires c κs = (omega arith, omega arith, omega arith)
 
--- src/runs.rt:72:9
 add-j : tie.Need-add-j Inv-loop μ-loop
 add-j c = search needs
 
--- src/runs.rt:70:5
 loop-less : tie.Need-loop-less Inv-loop μ-loop
 loop-less c = search needs
 
--- src/runs.rt:70:5
 loop-again : tie.Need-loop-again Inv-loop μ-loop
 loop-again c =
     let c₂ = c .before .before in
     (search needs, search needs, spheres-more _ _ _ (c₂ .before .before .before .loop .inv .2) (c₂ .put-sphere .ensures))
 
--- src/runs.rt:64:1
 same-length : tie.Need-same-length Inv-loop μ-loop
 same-length c = search needs
 
--- src/runs.rt:64:1
 returns : tie.Need-returns Inv-loop μ-loop
 returns c = spheres-end _ _ _ (c .before .loop .inv .0) (c .loop-test .left) (c .before .loop .inv .2)
 

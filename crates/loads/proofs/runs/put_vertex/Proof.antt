@@ -4,43 +4,33 @@ use borrow.Author.Needs.{needs}
 use Rattle.loads.proofs.runs.put_vertex.Statement.{statement}
 use Rattle.loads.proofs.runs.put_vertex.Tie as tie
 
--- src/runs.rt:18:9
 xorshift-requires : tie.Need-xorshift-requires
 xorshift-requires c κs = search needs
 
--- src/runs.rt:19:9
 xorshift-requires-2 : tie.Need-xorshift-requires-2
 xorshift-requires-2 c κs = search needs
 
--- src/runs.rt:20:28
 mul-put-record : tie.Need-mul-put-record
 mul-put-record c = search needs
 
--- src/runs.rt:20:23
 add-put-record : tie.Need-add-put-record
 add-put-record c = search needs
 
--- src/runs.rt:20:36
 add-put-record-2 : tie.Need-add-put-record-2
 add-put-record-2 c = search needs
 
--- src/runs.rt:20:53
 coordinate-bits-requires : tie.Need-coordinate-bits-requires
 coordinate-bits-requires c κs = search needs
 
--- src/runs.rt:20:73
 radius-bits-requires : tie.Need-radius-bits-requires
 radius-bits-requires c κs = search needs
 
--- src/runs.rt:20:5
 put-record-requires : tie.Need-put-record-requires
 put-record-requires c κs = search needs
 
--- src/runs.rt:14:1
 same-length : tie.Need-same-length
 same-length c = search needs
 
--- src/runs.rt:14:1
 returns : tie.Need-returns
 returns c =
     let c₂ = c .before .before in

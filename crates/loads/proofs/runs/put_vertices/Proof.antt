@@ -18,33 +18,26 @@ Inv-loop space₀ seed n state₀ i₀ space state i =
 abbrev μ-loop : tie.MeasureT-loop
 μ-loop space₀ seed n state₀ i₀ space state i = n - i
 
--- src/runs.rt:31:5
 loop-holds : tie.Need-loop-holds Inv-loop μ-loop
 loop-holds c = (search needs, refl, vertices-none _ _)
 
--- src/runs.rt:32:9
 put-vertex-requires : tie.Need-put-vertex-requires Inv-loop μ-loop
 put-vertex-requires c κs = (omega arith, omega arith)
 
--- src/runs.rt:33:9
 add-i : tie.Need-add-i Inv-loop μ-loop
 add-i c = search needs
 
--- src/runs.rt:31:5
 loop-less : tie.Need-loop-less Inv-loop μ-loop
 loop-less c = search needs
 
--- src/runs.rt:31:5
 loop-again : tie.Need-loop-again Inv-loop μ-loop
 loop-again c =
     let c₂ = c .before .before in
     (search needs, search needs, vertices-more _ _ (c₂ .before .before .before .loop .inv .2) (c₂ .put-vertex .ensures))
 
--- src/runs.rt:25:1
 same-length : tie.Need-same-length Inv-loop μ-loop
 same-length c = search needs
 
--- src/runs.rt:25:1
 returns : tie.Need-returns Inv-loop μ-loop
 returns c = vertices-end _ _ _ (c .before .loop .inv .0) (c .loop-test .left) (c .before .loop .inv .2)
 

@@ -4,23 +4,19 @@ use Rattle.profile.specs.Refusals.{refusal}
 use Rattle.loads.proofs.writer.load_refusal.Statement.{statement}
 use Rattle.loads.proofs.writer.load_refusal.Tie as tie
 
--- src/writer.rt:18:9
 returns : tie.Need-returns
 unfolding refusal
 returns c = rw (eq-eqb _ _ (c .if1 .taken))
 
--- src/writer.rt:21:9
 returns-2 : tie.Need-returns-2
 unfolding refusal
 returns-2 c = rw (ne-eqb _ _ (c .before .if1 .left), lt-ltb _ _ (c .if2 .taken))
 
--- src/writer.rt:24:9
 returns-3 : tie.Need-returns-3
 unfolding refusal
 returns-3 c =
     rw (ne-eqb _ _ (c .before .before .if1 .left), le-ltb _ _ (c .before .if2 .left), lt-ltb _ _ (c .if3 .taken))
 
--- src/writer.rt:14:1
 returns-4 : tie.Need-returns-4
 unfolding refusal
 returns-4 c =

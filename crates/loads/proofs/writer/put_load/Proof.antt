@@ -4,31 +4,24 @@ use borrow.Author.Needs.{needs}
 use Rattle.loads.proofs.writer.put_load.Statement.{statement}
 use Rattle.loads.proofs.writer.put_load.Tie as tie
 
--- src/writer.rt:34:5
 put-record-requires : tie.Need-put-record-requires
 put-record-requires c κs = search needs
 
--- src/writer.rt:35:9
 put-vertices-requires : tie.Need-put-vertices-requires
 put-vertices-requires c κs = search needs
 
--- src/writer.rt:36:5
 put-spheres-requires : tie.Need-put-spheres-requires
 put-spheres-requires c κs = search needs
 
--- src/writer.rt:37:5
 mul-result : tie.Need-mul-result
 mul-result c = search needs
 
--- src/writer.rt:37:5
 add-result : tie.Need-add-result
 add-result c = search needs
 
--- src/writer.rt:30:1
 same-length : tie.Need-same-length
 same-length c = search needs
 
--- src/writer.rt:30:1
 returns : tie.Need-returns
 returns c =
     let c₂ = c .before .before in

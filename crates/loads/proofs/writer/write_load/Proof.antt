@@ -5,22 +5,18 @@ use borrow.Author.Needs.{needs}
 use Rattle.loads.proofs.writer.write_load.Statement.{statement}
 use Rattle.loads.proofs.writer.write_load.Tie as tie
 
--- src/writer.rt:45:9
 load-refusal-requires : tie.Need-load-refusal-requires
 load-refusal-requires c κs = search needs
 
--- src/writer.rt:47:9
 returns : tie.Need-returns
 returns c = load-refused _ _ _ (c .before .load-refusal .ensures) (c .if1 .taken)
 
--- src/writer.rt:49:9
 put-load-requires : tie.Need-put-load-requires
 put-load-requires c κs =
     let c₁ = c .before in
     let a = c₁ .before .before .args in
     (in-range (a .seed) (a .vertices) (sym (c₁ .before .load-refusal .ensures) ∙ c₁ .if1 .left) .few, c .put-load-arg .given .0 .1)
 
--- src/writer.rt:42:1
 returns-2 : tie.Need-returns-2
 returns-2 c =
     let c₂ = c .before .before in
