@@ -1,4 +1,9 @@
 -- `loads::draws::radius_bits`. A radius is no NaN.
+use mathlib.Core.Bool.{not}
+use mathlib.Core.Path.{sym, ap, subst, _∙_}
+use lib.Dec.{T}
+use lib.Ieee.{Float, binary64, toBits, isNan}
+use Rattle.arith.specs.Num.{abs}
 use Rattle.loads.proofs.Coordinates.{no-nan, radius-ranged}
 use borrow.Author.Needs.{needs}
 use Rattle.loads.proofs.draws.radius_bits.Statement.{statement}
@@ -11,10 +16,12 @@ abs-requires : tie.Need-abs-requires
 abs-requires c κs = search needs
 
 float-to-bits-result : tie.Need-float-to-bits-result
-float-to-bits-result c = rw (c .abs .ensures, c .before .coordinate .ensures) (no-nan _ _ (radius-ranged _))
+float-to-bits-result c =
+    let radius = c .abs .ensures ∙ ap abs (c .before .coordinate .ensures) in
+    subst (λ (x : Float). T (not (isNan x))) (sym radius) (no-nan _ _ (radius-ranged _))
 
 returns : tie.Need-returns
-returns c = rw (c .abs .ensures, c .before .coordinate .ensures)
+returns c = ap (toBits binary64) (c .abs .ensures ∙ ap abs (c .before .coordinate .ensures))
 
 pub radius-bits-spec : {M : Type 1} → statement M
 radius-bits-spec =
