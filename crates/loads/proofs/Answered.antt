@@ -3,7 +3,7 @@ use Prim.Native.Nat.{ℕ, zero, suc, _+_, _*_, _<_, _≤_, _^_}
 use native.Mathlib.Omega.{arith}
 use mathlib.Core.Bool.{Bool, true, false, not, _||_, cond}
 use mathlib.Core.List.{List, [], _∷_, _++_}
-use mathlib.Core.Path.{_≡_, refl, sym, ap, subst, _∙_}
+use mathlib.Core.Path.{_≡_, refl, sym, ap, ap₂, subst, _∙_}
 use lib.ListN.{length, take, drop, length-append}
 use lib.Seq.{take-at}
 use lib.Dec.{T, eqb, ltb}
@@ -88,7 +88,7 @@ module _ (seed n : ℕ) (given : List ℕ) {after : List ℕ} where
           let size : m ≡ length (load seed n) = same-value (w .told-of) in
           let range = in-range seed n e in
           let all : take m after ≡ load seed n =
-              ap (take m) (w .space) ∙ take-at (load seed n) (drop (length (load seed n)) given) m (sym size) in
+          ap (take m) (w .space) ∙ take-at (load seed n) (drop (length (load seed n)) given) m (sym size) in
           record {
             loaded = rw e;
             front = all;
@@ -112,6 +112,13 @@ pub bytes-printed :
     → Written text 0 (bytesLine (take m space)) after r → Prints (loadText (loadAnswer seed n)) text after r
 bytes-printed seed n f size written =
     rw (f .loaded, ← f .front) (front-written written (omega (arith, f .room, size)))
+
+-- of the seed and the count that were read
+pub asked-printed :
+    {s t m n : ℕ} {text after : List ℕ} {r : ℕ} → s ≡ t → m ≡ n → Prints (loadText (loadAnswer s m)) text after r
+    → Prints (loadText (loadAnswer t n)) text after r
+asked-printed {s} {t} {m} {n} {text} {after} {r} seed count p =
+    subst (λ (l : List ℕ). Prints l text after r) (ap₂ (λ (x y : ℕ). loadText (loadAnswer x y)) seed count) p
 
 pub refusal-room : {room : ℕ} (k : ℕ) → k < 2 ^ 32 → room ≡ 23121 → length (refusedLine k) ≤ room
 refusal-room k h size = omega (arith, length-refused-line k h)

@@ -65,10 +65,10 @@ module _ (f : ℕ → ℕ → List ℕ) (size : (i s : ℕ) → length (f i s) �
       let filled : length (run i) ≡ i * 40 = length-run _ 40 (λ k. size k _) i in
       let first : Written l at (run i) mid (at + i * 40) = record { text = now .text; end = omega (arith, filled) } in
       let second : Written mid (at + i * 40) (f i s) after (at + i * 40 + 40) =
-          record { text = next .text; end = omega (arith, size i s) } in
+      record { text = next .text; end = omega (arith, size i s) } in
       let both : after ≡ sets l at (run i ++ f i s) = then first second .text in
       let same : run (i + 1) ≡ run i ++ f i s =
-          ap run (add-one i) ∙ run-more _ i ∙ ap (λ (z : ℕ). run i ++ f i z) (sym (now .end)) in
+      ap run (add-one i) ∙ run-more _ i ∙ ap (λ (z : ℕ). run i ++ f i z) (sym (now .end)) in
       let steps : (i + 1) * d ≡ i * d + d = omega arith in
       record {
         text = both ∙ ap (sets l at) (sym same);
@@ -93,7 +93,7 @@ vertex-drawn i state {l} {after} {at} s-is t-is x-is y-is w =
     let second = t-is ∙ ap xorshift s-is in
     record {
       text = w .text ∙ ap₂ (λ (a b : ℕ). sets l at (recordBytes (i + 2) 1 a b 0 0)) (x-is ∙ ap coordinateBits s-is)
-      (y-is ∙ ap radiusBits second);
+          (y-is ∙ ap radiusBits second);
       end = second;
     }
 
@@ -165,11 +165,11 @@ load-put seed n {l} {first} {second} {after} {r} {s} {q} few room lead vertices 
     let size : length (loadVertices seed n) ≡ n * 40 = length-run _ 40 (λ k. vertex-size k _) n in
     let end : length (loadSpheres s n 32) ≡ 32 * 40 = length-run _ 40 (λ k. sphere-size n k _) 32 in
     let behind : Written l 0 (recordBytes 1 0 0 0 0 0) first 40 =
-        record { text = lead .text; end = omega (arith, length-record 1 0 0 0 0 0) } in
+    record { text = lead .text; end = omega (arith, length-record 1 0 0 0 0 0) } in
     let middle : Written first 40 (loadVertices seed n) second (n * 40 + 40) =
-        record { text = vertices .text; end = omega (arith, size) } in
+    record { text = vertices .text; end = omega (arith, size) } in
     let last : Written second (n * 40 + 40) (loadSpheres s n 32) after (n * 40 + 1320) =
-        record { text = spheres .text; end = omega (arith, end) } in
+    record { text = spheres .text; end = omega (arith, end) } in
     let whole : Written l 0 (recordBytes 1 0 0 0 0 0 ++ loadVertices seed n ++ loadSpheres s n 32) after (n * 40 + 1320) =
-        then (then behind middle) last in
+    then (then behind middle) last in
     front-written (rw (vertices .end) at whole) (omega (arith, length-load seed n, room))

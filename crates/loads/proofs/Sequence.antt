@@ -36,15 +36,15 @@ module _ {A : Type 0} (f : ℕ → List A) where
           record {
             after = [];
             parts = run-more n ∙ ap (λ (j : ℕ). flatMap f (upTo j) ++ f j) same
-            ∙ ap (λ (l : List A). flatMap f (upTo k) ++ l) (sym (append-nil (f k)));
+                ∙ ap (λ (l : List A). flatMap f (upTo k) ++ l) (sym (append-nil (f k)));
           }
       go (inr sooner) shorter =
           let c = shorter sooner in
           record {
             after = c .after ++ f n;
             parts = run-more n ∙ ap (λ (l : List A). l ++ f n) (c .parts)
-            ∙ append-assoc (flatMap f (upTo k)) (f k ++ c .after) (f n)
-            ∙ ap (λ (l : List A). flatMap f (upTo k) ++ l) (append-assoc (f k) (c .after) (f n));
+                ∙ append-assoc (flatMap f (upTo k)) (f k ++ c .after) (f n)
+                ∙ ap (λ (l : List A). flatMap f (upTo k) ++ l) (append-assoc (f k) (c .after) (f n));
           }
 
   -- what each record's part has

@@ -31,6 +31,6 @@ input-printed b buffer room front = go (eqb (length b) 16) refl
     go true e =
         let size : length b ≡ 16 = eqb-true (length b) 16 e in
         let same : buffer ≡ b =
-            sym (take-all (length b) buffer (omega (arith, size, room))) ∙ sym front ∙ take-all 16 b (omega (arith, size)) in
+        sym (take-all (length b) buffer (omega (arith, size, room))) ∙ sym front ∙ take-all 16 b (omega (arith, size)) in
         ap (λ (l : List ℕ). loadText (loadAnswer (littleEndian 8 l 0) (littleEndian 8 l 8))) same
     go false e = ap loadText (unseeded (littleEndian 8 buffer 8) (littleEndian 8 b 8))

@@ -19,7 +19,16 @@ fn put_bytes(space: &mut [u8], at: usize, n: u64, k: usize) -> usize
 }
 
 // next, kind, and the bits of the four f64
-pub fn put_record(space: &mut [u8], at: usize, next: u64, kind: u64, a: u64, b: u64, c: u64, d: u64) -> usize
+pub fn put_record(
+    space: &mut [u8],
+    at: usize,
+    next: u64,
+    kind: u64,
+    a: u64,
+    b: u64,
+    c: u64,
+    d: u64,
+) -> usize
     requires { ⌜ at + 40 ≤ length (now space) ⌝ }
     ensures { λ r. ⌜ Written (now (space .entry)) at (recordBytes next kind a b c d) (now (space .exit)) r ⌝ }
 {

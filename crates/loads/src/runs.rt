@@ -17,7 +17,16 @@ fn put_vertex(space: &mut [u8], i: usize, state: u64) -> u64
 {
     let s = xorshift(state);
     let t = xorshift(s);
-    put_record(space, 40 + i * 40, i as u64 + 2, 1, coordinate_bits(s), radius_bits(t), 0, 0);
+    put_record(
+        space,
+        40 + i * 40,
+        i as u64 + 2,
+        1,
+        coordinate_bits(s),
+        radius_bits(t),
+        0,
+        0,
+    );
     t
 }
 
@@ -57,7 +66,16 @@ fn put_sphere(space: &mut [u8], n: usize, j: usize, state: u64) -> u64
     let u = xorshift(t);
     let v = xorshift(u);
     let at = n * 40 + 40 + j * 40;
-    put_record(space, at, sphere_next(n, j), 2, coordinate_bits(s), coordinate_bits(t), coordinate_bits(u), radius_bits(v));
+    put_record(
+        space,
+        at,
+        sphere_next(n, j),
+        2,
+        coordinate_bits(s),
+        coordinate_bits(t),
+        coordinate_bits(u),
+        radius_bits(v),
+    );
     v
 }
 

@@ -20,10 +20,10 @@ fn load_refusal(seed: u64, vertices: u64) -> u32
     if vertices < 3 {
         return 21;
     }
-    if 256 < vertices {
-        return 21;
+    if vertices <= 256 {
+        return 0;
     }
-    0
+    21
 }
 
 // How many bytes the store of n vertices has, at the front of the space.

@@ -27,8 +27,8 @@ low-back (suc n) x p q h =
     let y = x % 256 in
     let z = lowBytes n (x / 256) ++ q in
     let rest : littleEndian n (p ++ (y ∷ z)) (length p + 1) ≡ x / 256 =
-        ap₂ (littleEndian n) (sym (append-assoc p (y ∷ []) z)) (sym (length-append p (y ∷ [])))
-        ∙ low-back n (x / 256) (p ++ (y ∷ [])) q (fewer n x h) in
+    ap₂ (littleEndian n) (sym (append-assoc p (y ∷ []) z)) (sym (length-append p (y ∷ [])))
+    ∙ low-back n (x / 256) (p ++ (y ∷ [])) q (fewer n x h) in
     rw (getD-append-seam p y z 0, rest) (omega arith)
 
 pub read-back :
@@ -43,7 +43,7 @@ field-back :
 field-back n x i p u w q r e l h =
     let v = lowBytes n x in
     let inner : r ++ q ≡ u ++ (v ++ (w ++ q)) =
-        ap (λ (k : List ℕ). k ++ q) e ∙ append-assoc u (v ++ w) q ∙ ap (λ (k : List ℕ). u ++ k) (append-assoc v w q) in
+    ap (λ (k : List ℕ). k ++ q) e ∙ append-assoc u (v ++ w) q ∙ ap (λ (k : List ℕ). u ++ k) (append-assoc v w q) in
     let whole = ap (λ (k : List ℕ). p ++ k) inner ∙ sym (append-assoc p u (v ++ (w ++ q))) in
     read-back n x i (p ++ (r ++ q)) (p ++ u) (w ++ q) whole (length-append p u ∙ l) h
 

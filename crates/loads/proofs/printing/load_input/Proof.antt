@@ -1,10 +1,6 @@
 -- `loads::printing::load_input` prints what its definition says.
-use Prim.Native.Nat.{ℕ}
-use mathlib.Core.List.{List}
-use mathlib.Core.Path.{ap₂, subst}
-use Rattle.store_listing.specs.Listing.{Prints}
-use Rattle.loads.specs.Load.{loadAnswer}
-use Rattle.loads.specs.Printed.{loadText, inputText}
+use Rattle.loads.specs.Printed.{inputText}
+use Rattle.loads.proofs.Answered.{asked-printed}
 use borrow.Author.Needs.{needs}
 use Rattle.loads.proofs.printing.load_input.Statement.{statement}
 use Rattle.loads.proofs.printing.load_input.Tie as tie
@@ -22,8 +18,7 @@ returns : tie.Need-returns
 unfolding inputText
 returns c =
     let c₂ = c .before .before in
-    let asked = ap₂ (λ (s n : ℕ). loadText (loadAnswer s n)) (c₂ .before .seed-of .ensures) (c₂ .u64-at .ensures) in
-    subst (λ (t : List ℕ). Prints t _ _ _) asked (c .put-answer .ensures)
+    asked-printed (c₂ .before .seed-of .ensures) (c₂ .u64-at .ensures) (c .put-answer .ensures)
 
 pub load-input-spec : {M : Type 1} → statement M
 load-input-spec = tie.close (tie.spec seed-of-requires u64-at-requires put-answer-requires returns)

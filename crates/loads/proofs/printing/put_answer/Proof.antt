@@ -25,8 +25,11 @@ slice-aggregate-put-bytes-line c =
 put-bytes-line-requires : tie.Need-put-bytes-line-requires
 put-bytes-line-requires c κs =
     let c₃ = c .before .before .before in
-    omega (arith, front-of _ _ _ (c₃ .before .before .write-load .ensures) (c₃ .answer .given .1) .room,
-    c .put-bytes-line-arg .given .0 .1)
+    omega (
+      arith,
+      front-of _ _ _ (c₃ .before .before .write-load .ensures) (c₃ .answer .given .1) .room,
+      c .put-bytes-line-arg .given .0 .1,
+    )
 
 enum-known-answer-2 : tie.Need-enum-known-answer-2
 enum-known-answer-2 c = search needs
