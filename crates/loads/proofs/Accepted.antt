@@ -1,5 +1,5 @@
--- Every load is accepted by the store reader: its chain is 0, 1, .., n + 32, its kinds are right, and its section has n vertices that
--- the reader takes. By what each record reads as.
+-- Every load is accepted by the store reader: its chain is 0, 1, .., n + 32, its kinds are right, and its section has n
+-- vertices that the reader takes. By what each record reads as.
 use Prim.Native.Nat.{ℕ, zero, suc, _+_, _-_, _*_, _/_, _%_, _<_, _≤_}
 use native.Mathlib.Nat.{add-zero, add-suc}
 use native.Mathlib.Numerals.{add-one}

@@ -81,9 +81,12 @@ same-number e = cc
 module _ (seed n : ℕ) (given : List ℕ) {after : List ℕ} where
   pub front-of : {r : LoadAnswer} {m : ℕ} → LoadWritten (loadAnswer seed n) given r after → r ≡ Bytes m → Front seed n after m
   unfolding loadAnswer
-  front-of {r} {m} w is = go (refusal (loadTests seed n)) refl (subst (λ (x : LoadAnswer). LoadWritten (loadAnswer seed n) given x after) is w)
+  front-of {r} {m} w is =
+      go (refusal (loadTests seed n)) refl (subst (λ (x : LoadAnswer). LoadWritten (loadAnswer seed n) given x after) is w)
     where
-      go : (k : ℕ) → refusal (loadTests seed n) ≡ k → LoadWritten (reply k (load seed n)) given (Bytes m) after → Front seed n after m
+      go :
+          (k : ℕ) → refusal (loadTests seed n) ≡ k → LoadWritten (reply k (load seed n)) given (Bytes m) after
+          → Front seed n after m
       go zero e w =
           let size : m ≡ length (load seed n) = same-value (w .told-of) in
           let range = in-range seed n e in

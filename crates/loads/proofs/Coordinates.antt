@@ -1,5 +1,6 @@
--- Each coordinate is exact: a whole number of sixty-fourths, 1,048,576 of them at most either way, and a zero is +0. The subtraction
--- and the division round fractions that the format holds. So the reader takes every coordinate, and a radius is not below 0.
+-- Each coordinate is exact: a whole number of sixty-fourths, 1,048,576 of them at most either way, and a zero is +0. The
+-- subtraction and the division round fractions that the format holds. So the reader takes every coordinate, and no radius is
+-- below 0.
 use Prim.Native.Nat.{ℕ, _+_, _-_, _*_, _%_, _^_, _<_, _≤_}
 use native.Mathlib.Nat.{lt-of-lt-of-le, mul-assoc, mul-le-mul-right, mul-lt-mul-of-pos-right, mul-pos}
 use native.Mathlib.Omega.{arith}
@@ -84,7 +85,8 @@ quotient : (s : Bool) (a : ℕ) → a ≤ 1048576 → HasValue (round binary64 s
 quotient s a h =
     let small : a < 2 ^ 53 = omega arith in
     round-exact binary64 s a 64 a 1068 (lit< tt) small
-    (lt-of-lt-of-le (shl-lt 53 1068 small) (pow-mono {i = 53 + 1068} {j = 1074 + 1024} (lit≤ tt))) (sym (mul-assoc a (2 ^ 1068) 64))
+    (lt-of-lt-of-le (shl-lt 53 1068 small) (pow-mono {i = 53 + 1068} {j = 1074 + 1024} (lit≤ tt)))
+    (sym (mul-assoc a (2 ^ 1068) 64))
 
 over-sixty-four : (s : Bool) (a : ℕ) (x : Float) → HasValue x s a 1 → a ≤ 1048576 → HasValue (x ⊘ sixty-four) s a 64
 unfolding div ofBits
@@ -159,7 +161,12 @@ turned k (fin s m e) v = (rw (v .0), v .1)
 pub unsigned : (s : Bool) (x : Float) → Sixtyfourths s x → Sixtyfourths false (abs x)
 unsigned true x X =
     rw (below-zero (X .many) x (X .exact) (X .signed refl))
-    (record { many = X .many; exact = turned (X .many) x (X .exact); within = X .within; signed = λ e. absurd (true≢false (sym e)) })
+    (record {
+      many = X .many;
+      exact = turned (X .many) x (X .exact);
+      within = X .within;
+      signed = λ e. absurd (true≢false (sym e));
+    })
 unsigned false x X = rw (not-below (X .many) x (X .exact)) X
 
 pub radius-ranged : (state : ℕ) → Sixtyfourths false (abs (coordinate state))

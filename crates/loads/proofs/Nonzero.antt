@@ -1,5 +1,5 @@
--- From a seed other than 0 the state never becomes 0. Each of a step's three xors gives 0 only where a number equals its own shift,
--- and that number is 0.
+-- From a seed other than 0 the state never becomes 0. Each of a step's three xors gives 0 only where a number equals its own
+-- shift, and that number is 0.
 use Prim.Native.Nat.{ℕ, zero, suc, _+_, _-_, _*_, _/_, _%_, _^_, _<_}
 use native.Mathlib.Nat.{mod-lt, pow-suc}
 use native.Mathlib.Omega.{arith}

@@ -105,7 +105,8 @@ module _ (seed n : ℕ) where
   length-at : (k : ℕ) → length (recordAt k) ≡ 40
   unfolding vertexRecord sphereRecord
   length-at zero = length-record 1 0 0 0 0 0
-  length-at (suc i) = length-either (ltb i n) (vertexAt i) (sphereAt (i - n)) (length-record _ _ _ _ _ _) (length-record _ _ _ _ _ _)
+  length-at (suc i) =
+      length-either (ltb i n) (vertexAt i) (sphereAt (i - n)) (length-record _ _ _ _ _ _) (length-record _ _ _ _ _ _)
 
   pub length-load : length (load seed n) ≡ (n + 33) * 40
   length-load =

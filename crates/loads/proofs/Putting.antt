@@ -15,7 +15,8 @@ use Rattle.store_listing.specs.Listing.{Prints}
 use Rattle.store_listing.specs.Steps.{Written}
 use Rattle.store_listing.proofs.Writing.{then, nothing-written, front-written}
 use Rattle.loads.specs.Xorshift.{xorshift, stateAfter}
-use Rattle.loads.specs.Load.{coordinateBits, radiusBits, vertexRecord, sphereNext, sphereRecord, upTo, loadVertices, loadSpheres, load}
+use Rattle.loads.specs.Load.{coordinateBits, radiusBits, vertexRecord, sphereNext, sphereRecord, upTo}
+use Rattle.loads.specs.Load.{loadVertices, loadSpheres, load}
 use Rattle.loads.specs.Steps.{Drawn}
 use Rattle.loads.proofs.Sequence.{run-more, length-run}
 use Rattle.loads.proofs.Numbered.{length-load}
@@ -35,7 +36,9 @@ low-more l at n (suc k) {after} {r} h next = go (rw (one-less, add-one at) at ne
     one-less : suc k - 1 ≡ k
     one-less = omega arith
 
-    go : Written (set l at (n % 256)) (suc at) (lowBytes k (n / 256)) after r → Written l at (n % 256 ∷ lowBytes k (n / 256)) after r
+    go :
+        Written (set l at (n % 256)) (suc at) (lowBytes k (n / 256)) after r
+        → Written l at (n % 256 ∷ lowBytes k (n / 256)) after r
     go w = record { text = w .text; end = omega (arith, w .end) }
 
 pub low-length :
@@ -72,7 +75,11 @@ module _ (f : ℕ → ℕ → List ℕ) (size : (i s : ℕ) → length (f i s) �
       let steps : (i + 1) * d ≡ i * d + d = omega arith in
       record {
         text = both ∙ ap (sets l at) (sym same);
-        end = next .end ∙ ap (λ (z : ℕ). stateAfter z d) (now .end) ∙ states-add seed (i * d) d ∙ ap (stateAfter seed) (sym steps);
+        end =
+            next .end
+            ∙ ap (λ (z : ℕ). stateAfter z d) (now .end)
+            ∙ states-add seed (i * d) d
+            ∙ ap (stateAfter seed) (sym steps);
       }
 
 vertex-size : (i s : ℕ) → length (vertexRecord i s) ≡ 40

@@ -1,5 +1,5 @@
--- What the records of every load hold, as the reader reads them: coordinates on the grid of sixty-fourths within 16,384, radii not
--- below 0, unused fields 0. So no sphere of a load is turned down: each line of its listing has a distance.
+-- What the records of every load hold, as the reader reads them: coordinates on the grid of sixty-fourths within 16,384, radii
+-- not below 0, unused fields 0. So no sphere of a load is turned down: each line of its listing has a distance.
 use Prim.Native.Nat.{ℕ, suc, _+_, _<_, _≤_}
 use mathlib.Core.Bool.{Bool, false}
 use mathlib.Core.List.{List, _++_}

@@ -13,7 +13,8 @@ use super::fields::put_record;
 
 fn put_vertex(space: &mut [u8], i: usize, state: u64) -> u64
     requires { ⌜ (i < 256) × (length (now space) ≡ 20480) ⌝ }
-    ensures { λ r. ⌜ Drawn (now (space .entry)) (40 + i * 40) (vertexRecord i state) (now (space .exit)) (stateAfter state 2) r ⌝ }
+    ensures { λ r. ⌜ (let at = 40 + i * 40 in
+        Drawn (now (space .entry)) at (vertexRecord i state) (now (space .exit)) (stateAfter state 2) r) ⌝ }
 {
     let s = xorshift(state);
     let t = xorshift(s);
@@ -59,7 +60,8 @@ fn sphere_next(n: usize, j: usize) -> u64
 // Sphere j behind n vertices.
 fn put_sphere(space: &mut [u8], n: usize, j: usize, state: u64) -> u64
     requires { ⌜ (n ≤ 256) × (j < 32) × (length (now space) ≡ 20480) ⌝ }
-    ensures { λ r. ⌜ Drawn (now (space .entry)) (n * 40 + 40 + j * 40) (sphereRecord n j state) (now (space .exit)) (stateAfter state 4) r ⌝ }
+    ensures { λ r. ⌜ (let at = n * 40 + 40 + j * 40 in
+        Drawn (now (space .entry)) at (sphereRecord n j state) (now (space .exit)) (stateAfter state 4) r) ⌝ }
 {
     let s = xorshift(state);
     let t = xorshift(s);
@@ -82,7 +84,8 @@ fn put_sphere(space: &mut [u8], n: usize, j: usize, state: u64) -> u64
 // All 32, from the state behind the vertices on.
 pub fn put_spheres(space: &mut [u8], state0: u64, n: usize) -> u64
     requires { ⌜ (n ≤ 256) × (length (now space) ≡ 20480) ⌝ }
-    ensures { λ r. ⌜ Drawn (now (space .entry)) (n * 40 + 40) (loadSpheres state0 n 32) (now (space .exit)) (stateAfter state0 128) r ⌝ }
+    ensures { λ r. ⌜ (let at = n * 40 + 40 in
+        Drawn (now (space .entry)) at (loadSpheres state0 n 32) (now (space .exit)) (stateAfter state0 128) r) ⌝ }
 {
     let mut state = state0;
     let mut j = 0;

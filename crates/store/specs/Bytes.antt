@@ -1,4 +1,4 @@
--- Numbers in a list of bytes, little-endian: a u32, and an f64 by its bits, every NaN pattern being NaN; and the bytes of a number.
+-- Numbers in a list of bytes, little-endian: a u32, and an f64 by its bits, every NaN pattern being NaN; and a number's bytes.
 use Prim.Native.Nat.{ℕ, zero, suc, _+_, _*_, _/_, _%_}
 use mathlib.Core.List.{List, [], _∷_}
 use lib.ListN.{getD}

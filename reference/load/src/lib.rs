@@ -37,8 +37,7 @@ pub fn load(seed: u64, vertices: u64) -> Result<Vec<u8>, u32> {
         return Err(21);
     }
     let mut draws = Draws(seed);
-    let vertices: Vec<[f64; 4]> =
-        (0..vertices).map(|_| [draws.coordinate(), draws.radius(), 0.0, 0.0]).collect();
+    let vertices: Vec<[f64; 4]> = (0..vertices).map(|_| [draws.coordinate(), draws.radius(), 0.0, 0.0]).collect();
     let spheres: Vec<(u32, [f64; 4])> = (0..SPHERES)
         .map(|_| (2, [draws.coordinate(), draws.coordinate(), draws.coordinate(), draws.radius()]))
         .collect();

@@ -24,21 +24,32 @@ put-bytes-requires-3 c κs =
 
 put-bytes-requires-4 : tie.Need-put-bytes-requires-4
 put-bytes-requires-4 c κs =
-    let start = c .before .before .before .before .before .before .before .before .before .before .before .before .before .before in
+    let c₁₀ = c .before .before .before .before .before .before .before .before .before .before in
+    let start = c₁₀ .before .before .before .before in
     let a = start .args in
     omega (arith, length-low 4 (a .next), length-low 4 (a .kind), length-low 8 (a .a), start .pre)
 
 put-bytes-requires-5 : tie.Need-put-bytes-requires-5
 put-bytes-requires-5 c κs =
-    let start = c .before .before .before .before .before .before .before .before .before .before .before .before .before .before .before .before .before .before in
+    let c₁₀ = c .before .before .before .before .before .before .before .before .before .before in
+    let start = c₁₀ .before .before .before .before .before .before .before .before in
     let a = start .args in
     omega (arith, length-low 4 (a .next), length-low 4 (a .kind), length-low 8 (a .a), length-low 8 (a .b), start .pre)
 
 put-bytes-requires-6 : tie.Need-put-bytes-requires-6
 put-bytes-requires-6 c κs =
-    let start = c .before .before .before .before .before .before .before .before .before .before .before .before .before .before .before .before .before .before .before .before .before .before in
+    let c₁₀ = c .before .before .before .before .before .before .before .before .before .before in
+    let start = c₁₀ .before .before .before .before .before .before .before .before .before .before .before .before in
     let a = start .args in
-    omega (arith, length-low 4 (a .next), length-low 4 (a .kind), length-low 8 (a .a), length-low 8 (a .b), length-low 8 (a .c), start .pre)
+    omega (
+      arith,
+      length-low 4 (a .next),
+      length-low 4 (a .kind),
+      length-low 8 (a .a),
+      length-low 8 (a .b),
+      length-low 8 (a .c),
+      start .pre,
+    )
 
 same-length : tie.Need-same-length
 same-length c = search needs

@@ -24,7 +24,9 @@ slice-aggregate-put-word-2 c = search needs
 
 put-word-requires-2 : tie.Need-put-word-requires-2
 unfolding refusedLine text
-put-word-requires-2 c κs = omega (arith, simp length-append at (c .before .before .before .before .before .before .before .before .before .before .before .before .pre))
+put-word-requires-2 c κs =
+    let c₆ = c .before .before .before .before .before .before in
+    omega (arith, simp length-append at (c₆ .before .before .before .before .before .before .pre))
 
 same-length : tie.Need-same-length
 same-length c = search needs

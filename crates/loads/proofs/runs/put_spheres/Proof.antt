@@ -13,7 +13,8 @@ use Rattle.loads.proofs.runs.put_spheres.Tie as tie
 
 abbrev Inv-loop : tie.InvT-loop
 Inv-loop space₀ state0 n state₀ j₀ space state j =
-    (j ≤ 32) × (length space ≡ length space₀) × Drawn space₀ (n * 40 + 40) (loadSpheres state0 n j) space (stateAfter state0 (j * 4)) state
+    (j ≤ 32) × (length space ≡ length space₀)
+    × Drawn space₀ (n * 40 + 40) (loadSpheres state0 n j) space (stateAfter state0 (j * 4)) state
 
 abbrev μ-loop : tie.MeasureT-loop
 μ-loop space₀ state0 n state₀ j₀ space state j = 32 - j

@@ -15,7 +15,8 @@ put-load-requires : tie.Need-put-load-requires
 put-load-requires c κs =
     let c₁ = c .before in
     let a = c₁ .before .before .args in
-    (in-range (a .seed) (a .vertices) (sym (c₁ .before .load-refusal .ensures) ∙ c₁ .if1 .left) .few, c .put-load-arg .given .0 .1)
+    let range = in-range (a .seed) (a .vertices) (sym (c₁ .before .load-refusal .ensures) ∙ c₁ .if1 .left) in
+    (range .few, c .put-load-arg .given .0 .1)
 
 returns-2 : tie.Need-returns-2
 returns-2 c =
