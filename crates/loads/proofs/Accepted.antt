@@ -2,33 +2,29 @@
 -- vertices that the reader takes. By what each record reads as.
 use Prim.Native.Nat.{ℕ, zero, suc, _+_, _-_, _*_, _/_, _%_, _<_, _≤_}
 use native.Mathlib.Nat.{add-zero, add-suc}
-use native.Mathlib.Numerals.{add-one}
 use native.Mathlib.Omega.{arith}
-use mathlib.Core.Bool.{Bool, true, false, not, _||_, _&&_, cond, or-false}
-use mathlib.Core.List.{List, [], _∷_, _++_, flatMap, append-nil}
+use mathlib.Core.Bool.{Bool, true, false, not}
+use mathlib.Core.List.{List, [], _∷_, _++_, flatMap}
 use mathlib.Core.Logic.{_⊎_, inl, inr}
 use mathlib.Core.Path.{_≡_, refl, ap, ap₂, subst, _∙_}
 use lib.ListN.{length, length-append}
-use lib.Dec.{T, eqb, ltb, leb}
-use lib.Ieee.{Float, neg}
-use lib.Ieee.Bits.{is-false}
-use borrow.Author.Tests.{eq-eqb, ne-eqb, lt-leb, le-ltb}
-use Rattle.arith.specs.F64.{_≺_, e-9}
-use Rattle.profile.specs.Refusals.{refusal, listTests, anyOf}
+use lib.Dec.{eqb, leb}
+use borrow.Author.Tests.{ne-eqb, lt-leb, le-ltb}
+use Rattle.profile.specs.Refusals.{refusal, anyOf}
 use Rattle.profile.proofs.Each.{All, nil, cons}
 use Rattle.profile.proofs.Refusals.Passed.{NumberTaken, passed}
 use Rattle.roots.proofs.Numbers.{decide}
-use Rattle.store.specs.Records.{records, next, kind, number}
-use Rattle.store.specs.Chain.{Chain, whole, broken, member, follow, chain, inOrder}
+use Rattle.store.specs.Records.{records, next, number}
+use Rattle.store.specs.Chain.{whole, member, follow, chain, inOrder}
 use Rattle.store.specs.First.{firstRefused}
-use Rattle.store.specs.Kinds.{isVertex, rightKind, kindsAnswer}
+use Rattle.store.specs.Kinds.{rightKind, kindsAnswer}
 use Rattle.store.specs.Radii.{belowAxis, radiiAnswer}
-use Rattle.store.specs.Store.{vertexNumbers, vertices, lengthAnswer, linksAnswer, sectionAnswer, chained, storeAnswer}
+use Rattle.store.specs.Store.{vertexNumbers, vertices, lengthAnswer, sectionAnswer, chained, storeAnswer}
 use Rattle.store.specs.declared.answers.StoreAnswer.the-variants.{Accepted}
 use Rattle.store.proofs.Following.{member-snoc}
 use Rattle.loads.specs.Load.{sphereNext, upTo, load}
-use Rattle.loads.proofs.Coordinates.{Sixtyfourths, number-taken, coordinate-ranged, radius-ranged, radius-above}
-use Rattle.loads.proofs.Numbered.{Fields, lead-read, vertex-read, sphere-read, length-load}
+use Rattle.loads.proofs.Coordinates.{number-taken, coordinate-ranged, radius-ranged, radius-above}
+use Rattle.loads.proofs.Numbered.{lead-read, vertex-read, sphere-read, length-load}
 use Rattle.loads.proofs.Sequence.{run-more, all-run, all-below}
 
 -- ---- over any list of records

@@ -1,14 +1,14 @@
 -- What write_load answers, what the space then holds, and what the program prints of it.
-use Prim.Native.Nat.{ℕ, zero, suc, _+_, _*_, _<_, _≤_, _^_}
+use Prim.Native.Nat.{ℕ, zero, suc, _<_, _≤_, _^_}
 use native.Mathlib.Omega.{arith}
-use mathlib.Core.Bool.{Bool, true, false, not, _||_, cond}
-use mathlib.Core.List.{List, [], _∷_, _++_}
+use mathlib.Core.Bool.{Bool, true, false, not, _||_}
+use mathlib.Core.List.{List}
 use mathlib.Core.Path.{_≡_, refl, sym, ap, ap₂, subst, _∙_}
 use lib.ListN.{length, take, drop, length-append}
 use lib.Seq.{take-at}
 use lib.Dec.{T, eqb, ltb}
 use borrow.Author.Tests.{ltb-false}
-use Rattle.profile.specs.Refusals.{Test, _when_, refusal}
+use Rattle.profile.specs.Refusals.{refusal}
 use Rattle.profile.specs.Replies.{Reply, value, turned-down, reply}
 use Rattle.profile.proofs.Each.{All, nil, cons}
 use Rattle.profile.proofs.Refusals.Ordered.{Passes, none-applies}

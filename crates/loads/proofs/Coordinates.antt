@@ -194,10 +194,6 @@ number-taken s x X =
       small = rw (not-over (Y .many) (abs x) (Y .exact) (Y .within)) tt;
     }
 
-pub zero-taken : NumberTaken 𝟘
-unfolding lt ofBits isFinite
-zero-taken = record { finite = tt; small = tt }
-
 above-axis : (k : ℕ) (x : Float) → HasValue x false k 64 → (x ≺ neg e-9) ≡ false
 unfolding lt ofBits neg
 above-axis k nan v = absurd v

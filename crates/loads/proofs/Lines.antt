@@ -2,10 +2,10 @@
 use Prim.Native.Nat.{ℕ, _+_, _*_, _<_, _≤_, _^_}
 use native.Mathlib.Nat.{zero-add}
 use native.Mathlib.Omega.{arith}
-use mathlib.Core.List.{List, [], _∷_, _++_, flatMap}
-use mathlib.Core.Path.{_≡_, refl, sym, ap, _∙_}
+use mathlib.Core.List.{List, [], _∷_, flatMap}
+use mathlib.Core.Path.{_≡_, refl}
 use lib.ListN.{length, take, getD, length-append}
-use Rattle.store_listing.specs.Text.{text, decimal, hex}
+use Rattle.store_listing.specs.Text.{text, hex}
 use Rattle.store_listing.specs.Steps.{Written}
 use Rattle.store_listing.proofs.Digits.{length-hex, few-digits}
 use Rattle.store_listing.proofs.Pieces.{line-room}

@@ -3,7 +3,7 @@ use Prim.Native.Nat.{ℕ, zero, suc, _+_, _*_, _<_, _≤_}
 use native.Mathlib.Omega.{arith}
 use mathlib.Core.List.{List, [], _∷_, _++_, flatMap, append-assoc, append-nil}
 use mathlib.Core.Logic.{_⊎_, inl, inr}
-use mathlib.Core.Path.{_≡_, refl, sym, ap, _∙_}
+use mathlib.Core.Path.{_≡_, sym, ap, _∙_}
 use lib.ListN.{length, length-append}
 use Rattle.profile.proofs.Each.{All, nil, cons, all-append}
 use Rattle.roots.proofs.Numbers.{decide}
@@ -58,11 +58,3 @@ pub all-below : {P : ℕ → Type 0} (n : ℕ) → ((k : ℕ) → k < n → P k)
 unfolding upTo
 all-below zero each = nil
 all-below (suc n) each = all-append (all-below n (λ k h. each k (omega arith))) (cons (each n (omega arith)) nil)
-
--- runs that agree below n
-pub same-run : {A : Type 0} (f g : ℕ → List A) (n : ℕ) → ((k : ℕ) → k < n → f k ≡ g k)
-    → flatMap f (upTo n) ≡ flatMap g (upTo n)
-unfolding upTo flatMap
-same-run f g zero each = refl
-same-run f g (suc n) each =
-    rw (run-more f n, run-more g n, same-run f g n (λ k h. each k (omega arith)), each n (omega arith))

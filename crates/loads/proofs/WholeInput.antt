@@ -1,6 +1,6 @@
 -- An input that went into a buffer of 16 bytes as far as it reaches prints as the whole input: of 16 bytes all are there, and any
 -- other length counts as seed 0, which decides.
-use Prim.Native.Nat.{ℕ, _≤_}
+use Prim.Native.Nat.{ℕ}
 use native.Mathlib.Omega.{arith}
 use mathlib.Core.Bool.{Bool, true, false, cond}
 use mathlib.Core.List.{List}

@@ -2,7 +2,7 @@
 // the refusal.
 ghost use mathlib.Core.Path.{_≡_};
 ghost use mathlib.Core.List.{flatMap};
-ghost use Prim.Native.Nat.{_+_, _*_, _≤_};
+ghost use Prim.Native.Nat.{_+_, _≤_};
 ghost use lib.ListN.{length};
 ghost use Rattle.store_listing.specs.Text.{hex};
 ghost use Rattle.store_listing.specs.Listing.{Prints};
