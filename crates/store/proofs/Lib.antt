@@ -9,4 +9,5 @@ pub mod Reading
 pub mod Numbers
 pub mod Axis
 pub mod Lengths
+pub mod ReadBack
 pub mod Sums

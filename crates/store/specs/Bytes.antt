@@ -1,6 +1,6 @@
--- Numbers in a list of bytes, little-endian: a u32, and an f64 by its bits, every NaN pattern being NaN.
-use Prim.Native.Nat.{ℕ, zero, suc, _+_, _*_}
-use mathlib.Core.List.{List}
+-- Numbers in a list of bytes, little-endian: a u32, and an f64 by its bits, every NaN pattern being NaN; and a number's bytes.
+use Prim.Native.Nat.{ℕ, zero, suc, _+_, _*_, _/_, _%_}
+use mathlib.Core.List.{List, [], _∷_}
 use lib.ListN.{getD}
 use lib.Ieee.{Float, binary64, ofBits}
 
@@ -14,3 +14,8 @@ u32At b i = littleEndian 4 b i
 
 abbrev pub f64At : List ℕ → ℕ → Float
 f64At b i = ofBits binary64 (littleEndian 8 b i)
+
+-- the n low bytes of x, the lowest first
+unfoldable pub lowBytes : ℕ → ℕ → List ℕ
+lowBytes zero x = []
+lowBytes (suc n) x = x % 256 ∷ lowBytes n (x / 256)

@@ -27,7 +27,7 @@ fn u32_at(b: &[u8], i: usize) -> u64
     byte_at(b, i) + 256 * (byte_at(b, i1) + 256 * (byte_at(b, i2) + 256 * byte_at(b, i3)))
 }
 
-fn u64_at(b: &[u8], i: usize) -> u64
+pub fn u64_at(b: &[u8], i: usize) -> u64
     requires { ⌜ i < 2 ^ 39 ⌝ }
     ensures { λ r. ⌜ r ≡ littleEndian 8 (now (b .entry)) i ⌝ }
 {

@@ -10,10 +10,11 @@ mod vertices;
 pub use answers::StoreAnswer;
 pub use reader::read_store;
 
-// For the crate of the listing.
+// For the crates of the listing and of loads.
 pub use answers::Filled;
 pub use bytes::kind_of;
 pub use bytes::number_of;
+pub use bytes::u64_at;
 pub use reader::length_answer;
 pub use reader::read_chain;
 pub use reader::read_section;

@@ -1,8 +1,8 @@
 -- 01's example: records 0 to 5 in chain order, holding section S and the box 25, 30, 0, 5, print two lines. By
 -- computation.
-use Prim.Native.Nat.{ℕ, zero, suc, _/_, _%_}
+use Prim.Native.Nat.{ℕ}
 use mathlib.Core.Path.{_≡_, refl}
-use mathlib.Core.List.{List, [], _∷_, _++_, flatMap}
+use mathlib.Core.List.{List, _++_, flatMap}
 use lib.IntN.{pos}
 use lib.Ieee.{binary64, add, sub, mul, div, neg, lt, le, eq, ofInt, ofBits, toBits}
 use Rattle.arith.specs.Num.{isFinite}
@@ -16,8 +16,8 @@ use Rattle.points.specs.Overlap.{resultOf}
 use Rattle.boxes.specs.Boxes.{boxDistance}
 use Rattle.profile.specs.Refusals.{anyOf, anyBelowAxis, refusal}
 use Rattle.section.specs.Answers.{boxAnswer}
-use Rattle.store.specs.Bytes.{littleEndian}
-use Rattle.store.specs.Records.{next, kind, number}
+use Rattle.store.specs.Bytes.{littleEndian, lowBytes}
+use Rattle.store.specs.Records.{next, kind, number, recordBytes}
 use Rattle.store.specs.Chain.{follow, chain}
 use Rattle.store.specs.First.{firstRefused}
 use Rattle.store.specs.Kinds.{rightKind}
@@ -27,24 +27,18 @@ use Rattle.store_listing.specs.Text.{text, decimalAtMost, decimal, hex, 
 use Rattle.store_listing.specs.Listing.{bodyAnswer, fieldText, edgeText, hitText, bodyLine, sectionLine, refusalLine}
 use Rattle.store_listing.specs.Listing.{acceptedText, listing}
 
--- the n low bytes of x, the lowest first
-unfoldable pub lowBytes : ℕ → ℕ → List ℕ
-lowBytes zero x = []
-lowBytes (suc n) x = x % 256 ∷ lowBytes n (x / 256)
-
--- the bytes of a record whose four f64 are whole numbers
-unfoldable pub recordBytes : ℕ → ℕ → List ℕ → List ℕ
-recordBytes next kind numbers =
-    lowBytes 4 next ++ lowBytes 4 kind ++ flatMap (λ n. lowBytes 8 (toBits binary64 (ofInt binary64 (pos n)))) numbers
+-- the bits of a whole number
+abbrev f : ℕ → ℕ
+f n = toBits binary64 (ofInt binary64 (pos n))
 
 unfoldable pub example : List ℕ
 example =
-    recordBytes 1 0 (0 ∷ 0 ∷ 0 ∷ 0 ∷ [])
-    ++ recordBytes 2 1 (0 ∷ 10 ∷ 0 ∷ 0 ∷ [])
-    ++ recordBytes 3 1 (20 ∷ 10 ∷ 0 ∷ 0 ∷ [])
-    ++ recordBytes 4 1 (20 ∷ 0 ∷ 0 ∷ 0 ∷ [])
-    ++ recordBytes 5 1 (0 ∷ 0 ∷ 0 ∷ 0 ∷ [])
-    ++ recordBytes 0 3 (25 ∷ 30 ∷ 0 ∷ 5 ∷ [])
+    recordBytes 1 0 (f 0) (f 0) (f 0) (f 0)
+    ++ recordBytes 2 1 (f 0) (f 10) (f 0) (f 0)
+    ++ recordBytes 3 1 (f 20) (f 10) (f 0) (f 0)
+    ++ recordBytes 4 1 (f 20) (f 0) (f 0) (f 0)
+    ++ recordBytes 5 1 (f 0) (f 0) (f 0) (f 0)
+    ++ recordBytes 0 3 (f 25) (f 30) (f 0) (f 5)
 
 pub example-lists : listing example ≡ text "section 4\n5 4014000000000000 4034000000000000 0000000000000000 1\n"
 unfolding add sub mul div neg lt le eq ofInt ofBits toBits isFinite hypot upto any closestPoint closest closestPlaces segments

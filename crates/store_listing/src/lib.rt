@@ -9,3 +9,8 @@ pub use answers::ListAnswer;
 pub use listing::list_input;
 pub use listing::list_store;
 pub use listing::refusal_line;
+
+// For the crate of loads.
+pub use text::put_decimal;
+pub use text::put_hex;
+pub use text::put_word;

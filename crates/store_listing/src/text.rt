@@ -53,7 +53,7 @@ pub fn put_decimal(text: &mut [u8], at: usize, n: u64) -> usize
 }
 
 // The last k hexadecimal digits of n.
-fn put_hex(text: &mut [u8], at: usize, n: u64, k: usize) -> usize
+pub fn put_hex(text: &mut [u8], at: usize, n: u64, k: usize) -> usize
     requires { ⌜ at + k ≤ length (now text) ⌝ }
     ensures { λ r. ⌜ Written (now (text .entry)) at (text·specs.hex k n) (now (text .exit)) r ⌝ }
 {

@@ -1,6 +1,7 @@
 //! Document 01's store and its listing, written from 01's text, with 02's numbers for a length and its 6. Distances are
 //! those of the published Rust with the exact hypot, the edge comes from 01's steps; refusal numbers are those of the table.
 
+pub mod running;
 pub mod stores;
 
 use edges::Hit;

@@ -1,29 +1,12 @@
 //! Runs the verified listing program and the reference on the same stores and counts differences.
 
 use listing_ref::listing;
+use listing_ref::running::run;
 use listing_ref::stores::{S, Stores, example, in_order, longest};
-use std::io::{Read, Write};
-use std::process::{Command, Stdio};
 
 const USAGE: &str = "usage: compare_listings PROGRAM [COUNT [SEED]]
 Runs PROGRAM and the reference on named stores and on COUNT generated ones (2000 unless given), from SEED (1).
 Exit code 1 at a difference.";
-
-/// The program's output on this input, handed over in pieces of this size.
-fn run(program: &str, store: &[u8], piece: usize) -> Vec<u8> {
-    let child = Command::new(program).stdin(Stdio::piped()).stdout(Stdio::piped()).spawn();
-    let mut child = child.unwrap_or_else(|error| arguments::refuse(&format!("{program}: {error}"), USAGE));
-    let mut input = child.stdin.take().unwrap();
-    for part in store.chunks(piece) {
-        input.write_all(part).unwrap();
-        input.flush().unwrap();
-    }
-    drop(input);
-    let mut text = Vec::new();
-    child.stdout.take().unwrap().read_to_end(&mut text).unwrap();
-    child.wait().unwrap();
-    text
-}
 
 /// 01's example, its lengths, every single-bit flip of the example, and the largest stores and listings.
 fn named() -> Vec<Vec<u8>> {
@@ -63,7 +46,7 @@ fn main() {
     for (i, store) in stores.iter().enumerate() {
         let expected = listing(store);
         let piece = if i % 16 == 0 { 7 } else { 1 << 16 };
-        let got = run(program, store, piece);
+        let got = run(program, store, piece, USAGE);
         longest = longest.max(expected.len());
         *answers.entry(kind_of(&expected)).or_insert(0) += 1;
         if got != expected.as_bytes() {
