@@ -8,7 +8,8 @@
  * the edge that supplied it: edge k starts at vertex k, counted from 0. Beside a section nowhere over 1e-9 from the axis, a
  * point or a sphere is at +infinity with the first vertex as witness, and edge 0.
  *
- * Each call returns 0, or the number of the first test that applies, and then changes nothing that it was lent. The tests,
+ * Each call returns 0, or the number of the first test that applies, and then changes nothing that it was lent; only
+ * jorghipa_read_store then names the record. The tests,
  * in their order; each call makes those that it names, each over all lists and numbers that it is given:
  *    1  odd count of numbers                  6  section or polygon radius below -1e-9
  *    2  fewer than 3 vertices (2 points)      7  space too small (builder)
@@ -18,7 +19,8 @@
  *   18  a setting out of range or not finite 11  cylinder neither along the spindle nor across it
  *   14  body of an unknown kind              17  more than 64 bodies (assembly)
  *                                            19  no step, or more than 4,096 (move)
- * So 18 stands between 5 and 6. 4 and 5 do not look at the settings: a tolerance of NaN is 18.
+ * So 18 stands between 5 and 6. 4 and 5 do not look at the settings: a tolerance of NaN is 18. The numbers of a store and of
+ * its edits stand with their calls, below.
  *
  * jorghipa_records.h has the queries of a point, sphere, box and cylinder over an array of vertices.
  *
@@ -171,6 +173,36 @@ uint32_t jorghipa_move(const double *section, size_t section_count, uint32_t kin
                        double end_x, double end_y, double end_z, uint32_t steps, double tolerance, uint32_t most,
                        uint32_t intervals, double *distance, uint32_t *step, uint32_t *collides,
                        uint32_t *colliding_step, uint32_t *boxes);
+
+/* ---- stores: docs/STORES.md says what the records are
+ *
+ * A store is 1 to 512 records of 40 bytes. Its tests, in their order:
+ *   12  the length is no multiple of 40      13  a next past the end, or a record for the second time
+ *   15  no byte at all                       14  a record of the wrong kind
+ *   16  over 512 records                      2 to 6 of its section
+ *
+ * Reads a store. Where it is accepted, *record stays as it was. Where it is refused, *record is the record that is wrong, the
+ * K of `refused N at K`: that of the bad next for 13, the first bad one in chain order for 14 and 6, else 0. */
+uint32_t jorghipa_read_store(const uint8_t *store, size_t store_count, uint32_t *record);
+
+/* Edits a store that lies at the front of a space of 20,480 bytes and is `length` bytes long. *length_after is its length
+ * afterwards. role 1 is the setter, any other number the operator. The tests, in their order:
+ *   12  bytes_count is not 40, or space_count not 20,480
+ *       the store's, as above; a length past the space is 12 or 16
+ *   24  (replace) the record is not on the chain
+ *   22  an operator's edit of record 0, of a vertex, of a link (a replacement with another next), or one that makes a vertex
+ *   23  (add) 512 records, all on the chain
+ *       the outcome's: an edit that would make a store that is refused
+ * A refused edit changes no byte.
+ *
+ * Puts 40 bytes in the place of the record, which is on the chain; record 0 is. The length stays. */
+uint32_t jorghipa_replace(uint8_t *space, size_t space_count, size_t length, uint32_t role, uint32_t record,
+                          const uint8_t *bytes, size_t bytes_count, size_t *length_after);
+
+/* Puts 40 bytes at the end of the chain, with next 0 whatever next they have: in the lowest record that is not on the chain, or
+ * in a new one if all are. The next field that leads to it is the only other one that changes. */
+uint32_t jorghipa_add(uint8_t *space, size_t space_count, size_t length, uint32_t role, const uint8_t *bytes,
+                      size_t bytes_count, size_t *length_after);
 
 #ifdef __cplusplus
 }

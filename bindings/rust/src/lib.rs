@@ -11,6 +11,7 @@ pub mod raw;
 #[cfg(feature = "records")]
 mod records;
 mod refusal;
+mod stores;
 mod verdicts;
 
 pub use assemblies::*;
@@ -23,6 +24,7 @@ pub use pairs::*;
 #[cfg(feature = "records")]
 pub use records::*;
 pub use refusal::Refusal;
+pub use stores::*;
 pub use verdicts::*;
 
 /// The f64 nearest the root, ties to even.

@@ -79,6 +79,15 @@ unsafe extern "C" {
         most: u32, intervals: u32, distance: *mut f64, step: *mut u32, collides: *mut u32, colliding_step: *mut u32,
         boxes: *mut u32,
     ) -> u32;
+    pub fn jorghipa_read_store(store: *const u8, store_count: usize, record: *mut u32) -> u32;
+    pub fn jorghipa_replace(
+        space: *mut u8, space_count: usize, length: usize, role: u32, record: u32, bytes: *const u8, bytes_count: usize,
+        length_after: *mut usize,
+    ) -> u32;
+    pub fn jorghipa_add(
+        space: *mut u8, space_count: usize, length: usize, role: u32, bytes: *const u8, bytes_count: usize,
+        length_after: *mut usize,
+    ) -> u32;
     pub fn jorghipa_sqrt(x: f64) -> f64;
     pub fn jorghipa_hypot(a: f64, b: f64) -> f64;
 }

@@ -29,12 +29,17 @@ impl Refusal {
             9 => "body radius below 0",
             10 => "z1 < z0 or r1 < r0",
             11 => "cylinder neither along the spindle nor across it",
-            12 => "store length wrong",
+            12 => "store length no multiple of 40, or an edit's space or bytes of another size",
             13 => "next past the end of the store, or a record twice",
             14 => "record, or body of an assembly, of the wrong kind",
+            15 => "store of no bytes",
+            16 => "over 512 records",
             17 => "more than 64 bodies",
             18 => "a setting out of range or not finite",
             19 => "no step, or more than 4,096",
+            22 => "not an operator's edit: record 0, a vertex or a link",
+            23 => "512 records, all reached",
+            24 => "no such record on the chain",
             _ => return None,
         })
     }
@@ -63,12 +68,12 @@ mod tests {
     fn every_known_number_has_its_meaning() {
         let table: Vec<&str> =
             include_str!("../README.md").lines().filter(|line| line.starts_with("| ")).skip(1).collect();
-        let known: Vec<u32> = (1..=14).chain([17, 18, 19]).collect();
+        let known: Vec<u32> = (1..=19).chain(22..=24).collect();
         assert_eq!(table.len(), known.len());
         for (number, row) in known.into_iter().zip(table) {
             assert_eq!(row, format!("| {number} | {} |", Refusal(number).meaning().unwrap()));
         }
-        for unknown in [0, 15, 16, 20, u32::MAX] {
+        for unknown in [0, 20, 25, u32::MAX] {
             assert_eq!(Refusal(unknown).to_string(), format!("refused {unknown}"));
         }
     }

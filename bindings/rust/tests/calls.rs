@@ -305,3 +305,60 @@ fn records() {
     assert_eq!(box_of(&low, bounds(5.0, 4.0, 0.0, 5.0)), Err(Refusal(6)));
     assert_eq!(cylinder_of(&low, Cylinder { radius: -1.0, ..along }), Err(Refusal(6)));
 }
+
+/// 01's example at the front of a space: S in records 1 to 4, a box in record 5.
+fn example_space() -> Vec<u8> {
+    let mut space = vec![0xee; SPACE];
+    space[..240].copy_from_slice(include_bytes!("../../../crates/listing/stdin"));
+    space
+}
+
+fn body(next: u32, kind: u32, numbers: [f64; 4]) -> [u8; RECORD] {
+    let mut bytes = [0; RECORD];
+    bytes[..4].copy_from_slice(&next.to_le_bytes());
+    bytes[4..8].copy_from_slice(&kind.to_le_bytes());
+    numbers.iter().enumerate().for_each(|(i, x)| bytes[8 + 8 * i..16 + 8 * i].copy_from_slice(&x.to_le_bytes()));
+    bytes
+}
+
+#[test]
+fn stores() {
+    let mut space = example_space();
+    assert_eq!(read_store(&space[..240]), Ok(()));
+    assert_eq!(read_store(&space[..239]), Err(RefusedStore { refusal: Refusal(12), record: 0 }));
+    let box_26 = body(0, 3, [26.0, 30.0, 0.0, 5.0]);
+    assert_eq!(replace(&mut space, 240, Role::Operator, 5, &box_26), Ok(240));
+    assert_eq!(space[200..240], box_26);
+    let sphere = body(7, 2, [0.0, 0.0, 30.0, 4.0]);
+    assert_eq!(add(&mut space, 240, Role::Operator, &sphere), Ok(280));
+    assert_eq!(space[200..204], [6, 0, 0, 0]);
+    assert_eq!(space[240..280], body(0, 2, [0.0, 0.0, 30.0, 4.0]));
+    assert_eq!(space[280..], vec![0xee; SPACE - 280]);
+}
+
+#[test]
+fn refused_edits() {
+    let start = example_space();
+    let (vertex, sphere) = (body(5, 1, [0.0, 1.0, 0.0, 0.0]), body(0, 2, [0.0, 0.0, 30.0, 4.0]));
+    let mut space = start.clone();
+    for (role, record, bytes, number) in [
+        (Role::Operator, 6, &sphere, 24),
+        (Role::Operator, 4, &vertex, 22),
+        (Role::Operator, 5, &vertex, 22),
+        (Role::Operator, 5, &body(2, 2, [0.0; 4]), 22),
+        (Role::Setter, 5, &body(2, 2, [0.0; 4]), 13),
+        (Role::Setter, 5, &body(0, 7, [0.0; 4]), 14),
+        (Role::Setter, 4, &body(5, 1, [0.0, -1.0, 0.0, 0.0]), 6),
+    ] {
+        assert_eq!(replace(&mut space, 240, role, record, bytes), Err(Refusal(number)));
+    }
+    for (length, number) in [(0, 15), (41, 12), (20_520, 16), (usize::MAX, 12), (200, 13)] {
+        assert_eq!(add(&mut space, length, Role::Setter, &sphere), Err(Refusal(number)));
+    }
+    assert_eq!(add(&mut space, 240, Role::Operator, &vertex), Err(Refusal(22)));
+    assert_eq!(add(&mut space[1..], 240, Role::Setter, &sphere), Err(Refusal(12)));
+    assert_eq!(space, start);
+    let told = RefusedStore { refusal: Refusal(13), record: 4 };
+    assert_eq!(read_store(&space[..200]), Err(told));
+    assert_eq!(told.to_string(), "refused 13: next past the end of the store, or a record twice, at record 4");
+}

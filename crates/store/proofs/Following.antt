@@ -35,7 +35,7 @@ member-snoc m k [] = or-false (eqb m k)
 member-snoc m k (x ∷ l) = rw (member-snoc m k l, or-assoc)
 
 -- record k gets its mark
-marked-more :
+pub marked-more :
     (marks : List Bool) (l : List ℕ) (k m : ℕ) → k < length marks → getD marks m false ≡ member m l
     → getD (set marks k true) m false ≡ member m (l ++ (k ∷ []))
 marked-more marks l k m h old = go (eqb m k) refl

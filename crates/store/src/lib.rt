@@ -10,9 +10,10 @@ mod vertices;
 pub use answers::StoreAnswer;
 pub use reader::read_store;
 
-// For the crates of the listing and of loads.
+// For the crates of the listing, of loads and of the edits.
 pub use answers::Filled;
 pub use bytes::kind_of;
+pub use bytes::next_of;
 pub use bytes::number_of;
 pub use bytes::u64_at;
 pub use reader::length_answer;

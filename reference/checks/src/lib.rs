@@ -2,6 +2,7 @@
 
 pub mod answer;
 pub mod assembly;
+pub mod edits;
 pub mod fixed;
 pub mod generate;
 pub mod judge;

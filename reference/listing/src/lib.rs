@@ -1,6 +1,7 @@
 //! Document 01's store and its listing, written from 01's text, with 02's numbers for a length and its 6. Distances are
 //! those of the published Rust with the exact hypot, the edge comes from 01's steps; refusal numbers are those of the table.
 
+pub mod editor;
 pub mod running;
 pub mod stores;
 
@@ -8,10 +9,10 @@ use edges::Hit;
 use std::fmt::Write;
 
 pub const RECORD: usize = 40;
-const MOST_RECORDS: usize = 512;
+pub const MOST_RECORDS: usize = 512;
 
 /// A refused store: the number and K.
-type Refusal = (u32, usize);
+pub type Refusal = (u32, usize);
 
 /// One record of 40 bytes: next, kind, four numbers.
 struct Record {
@@ -35,15 +36,23 @@ pub fn listing(store: &[u8]) -> String {
 }
 
 fn accepted(store: &[u8]) -> Result<String, Refusal> {
-    if !store.len().is_multiple_of(RECORD) {
-        return Err((12, 0));
+    let Read { records, chain, section } = read(store)?;
+    let mut text = format!("section {}\n", section.len() / 2);
+    for &k in &chain {
+        line(&mut text, k, &records[k], &section);
     }
-    if store.is_empty() {
-        return Err((15, 0));
-    }
-    if store.len() > MOST_RECORDS * RECORD {
-        return Err((16, 0));
-    }
+    Ok(text)
+}
+
+/// An accepted store: its records, the chain, and the section's numbers.
+struct Read {
+    records: Vec<Record>,
+    chain: Vec<usize>,
+    section: Vec<f64>,
+}
+
+fn read(store: &[u8]) -> Result<Read, Refusal> {
+    right_length(store.len())?;
     let records: Vec<Record> = store.chunks(RECORD).map(record).collect();
     let chain = chain(&records)?;
     for &k in &chain {
@@ -58,25 +67,41 @@ fn accepted(store: &[u8]) -> Result<String, Refusal> {
     // a point at the origin adds no number of its own; 6 alone names a record
     table::point(&section, [0.0; 3], &[])
         .map_err(|number| (number, if number == 6 { below.expect("6 is of a vertex") } else { 0 }))?;
-    let mut text = format!("section {}\n", section.len() / 2);
-    for &k in &chain {
-        line(&mut text, k, &records[k], &section);
+    Ok(Read { records, chain, section })
+}
+
+/// The reader's verdict: the number and K of a refusal.
+pub fn verdict(store: &[u8]) -> Result<(), Refusal> {
+    read(store).map(|_| ())
+}
+
+/// 12, 15 and 16 of a length in bytes.
+fn right_length(length: usize) -> Result<(), Refusal> {
+    if !length.is_multiple_of(RECORD) {
+        return Err((12, 0));
     }
-    Ok(text)
+    if length == 0 {
+        return Err((15, 0));
+    }
+    if length > MOST_RECORDS * RECORD {
+        return Err((16, 0));
+    }
+    Ok(())
 }
 
 /// The records in chain order, record 0 first; 13 with the record that holds the bad next.
 fn chain(records: &[Record]) -> Result<Vec<usize>, Refusal> {
-    let mut chain = vec![0];
+    let (mut chain, mut met) = (vec![0], vec![false; records.len()]);
     loop {
         let k = *chain.last().unwrap();
         let next = records[k].next;
         if next == 0 {
             return Ok(chain);
         }
-        if next >= records.len() || chain.contains(&next) {
+        if next >= records.len() || met[next] {
             return Err((13, k));
         }
+        met[next] = true;
         chain.push(next);
     }
 }
