@@ -1,7 +1,3 @@
--- What the C functions return and leave in the places that they are lent; bodies and stores as C gives them.
-pub mod Interface
-pub mod Lifting
-pub mod Lists
-pub mod Pairs
-pub mod Moves
-pub mod Editing
+-- What the calls answer that take bodies as C gives them, and the verdict on a store. What a C caller gets is said in `handing`.
+pub mod Calls
+pub mod Reading

@@ -1,10 +1,6 @@
 // Does anything hit: 1 yes, 0 no.
-ghost use Rattle.capi.specs.Interface.{Gives, mark};
-ghost use Rattle.capi.specs.Lists.{anyHitOf};
-use super::lists::bodies_of;
-use super::lists::front_of;
-use super::lists::lists_refusal;
-use super::verdict::judge;
+ghost use Rattle.handing.specs.Interface.{Gives, mark};
+ghost use Rattle.capi.specs.Calls.{anyHitOf};
 
 #[no_mangle]
 pub extern "C" fn jorghipa_any_hit(
@@ -17,11 +13,11 @@ pub extern "C" fn jorghipa_any_hit(
     ensures { λ r. ⌜ Gives mark (anyHitOf (now (section .entry)) (now (kinds .entry)) (now (numbers .entry)) clearance)
         r (now (hit .entry)) (now (hit .exit)) ⌝ }
 {
-    let number = lists_refusal(kinds, numbers);
+    let number = lists::lists_refusal(kinds, numbers);
     if number != 0 {
         return number;
     }
-    let bodies = bodies_of(kinds, numbers, front_of(kinds.len()));
+    let bodies = lists::bodies_of(kinds, numbers, lists::front_of(kinds.len()));
     let verdict = assemblies::any_hit(section, bodies, kinds.len(), clearance);
-    judge(verdict, hit)
+    handing::judge(verdict, hit)
 }

@@ -1,35 +1,13 @@
 // The distance of a cylinder, with its counts and its mark.
-ghost use mathlib.Core.Path.{_≡_};
 ghost use Rattle.arith.specs.Vector.{vec};
 ghost use Rattle.cylinders.specs.Cylinders.{cylinderAnswer};
 ghost use Rattle.cylinders.specs.Promised.{Promised};
 ghost use Rattle.settings.specs.Settings.{settings};
-ghost use Prim.Native.Nat.{_≤_};
 ghost use Rattle.bands.specs.Band.{bar};
-ghost use Rattle.capi.specs.Interface.{Measures, places, counts, both, mark, hitCounts, cylinderPlaces};
-use super::distances::give;
+ghost use Rattle.handing.specs.Interface.{Measures, places, counts, both, cylinderPlaces};
 use arith::Vec3;
 use bands::Cylinder;
-use cylinders::CountedAnswer;
-use section::Answer;
 use settings::Settings;
-use walk::CountedHit;
-
-pub fn mark_of(cut: bool) -> u32
-    ensures { λ r. ⌜ r ≡ mark cut ⌝ }
-{
-    if cut { 1 } else { 0 }
-}
-
-// Puts the counts and the mark of a hit into the lent places.
-pub fn give_counts(h: CountedHit, boxes: &mut u32, waiting: &mut u32, cut: &mut u32)
-    requires { ⌜ (h .boxes ≤ 4294967295) × (h .waiting ≤ 4294967295) ⌝ }
-    ensures { λ r. ⌜ counts (now (boxes .exit)) (now (waiting .exit)) (now (cut .exit)) ≡ hitCounts h ⌝ }
-{
-    *boxes = h.boxes as u32;
-    *waiting = h.waiting as u32;
-    *cut = mark_of(h.cut);
-}
 
 #[no_mangle]
 pub extern "C" fn jorghipa_cylinder(
@@ -77,12 +55,14 @@ pub extern "C" fn jorghipa_cylinder(
         intervals,
     };
     let answer = cylinders::query_cylinder(section, Cylinder { a, b, radius }, settings);
-    match answer {
-        CountedAnswer::Hit(h) => {
-            let hit = h.hit;
-            give_counts(h, boxes, waiting, cut);
-            give(Answer::Hit(hit), distance, witness_z, witness_radius, edge)
-        }
-        CountedAnswer::Refused(n) => n,
-    }
+    handing::give_cylinder(
+        answer,
+        distance,
+        witness_z,
+        witness_radius,
+        edge,
+        boxes,
+        waiting,
+        cut,
+    )
 }

@@ -6,7 +6,6 @@ mod cylinder;
 mod distances;
 mod editing;
 mod lifting;
-mod lists;
 mod moving;
 mod numbers;
 mod pair;

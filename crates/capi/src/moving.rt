@@ -1,45 +1,14 @@
 // Trying a move: the report in the lent places.
 ghost use Rattle.arith.specs.Vector.{vec};
 ghost use Rattle.settings.specs.Settings.{settings};
-ghost use Rattle.moves.specs.Moves.{told, MovePromised};
-ghost use Rattle.capi.specs.Interface.{Gives, Measures};
-ghost use Rattle.capi.specs.Lists.{bodyAt};
-ghost use Rattle.capi.specs.Moves.{movePlaces, reportPlaces, travel, moveOf};
-use super::cylinder::mark_of;
-use super::lists::body_at;
-use super::lists::one_body_refusal;
+ghost use Rattle.moves.specs.Moves.{MovePromised};
+ghost use Rattle.handing.specs.Interface.{Measures};
+ghost use Rattle.lists.specs.Lists.{bodyAt};
+ghost use Rattle.handing.specs.Moves.{movePlaces, reportPlaces};
+ghost use Rattle.capi.specs.Calls.{travel, moveOf};
 use arith::Vec3;
-use moves::MoveAnswer;
 use moves::Travel;
 use settings::Settings;
-
-// Puts a report into the lent places, and gives the number of a refusal.
-fn give_report(
-    answer: MoveAnswer,
-    distance: &mut f64,
-    step: &mut u32,
-    collides: &mut u32,
-    colliding_step: &mut u32,
-    boxes: &mut u32,
-) -> u32
-    ensures { λ r. ⌜ Gives reportPlaces (told answer) r
-        (movePlaces (now (distance .entry)) (now (step .entry)) (now (collides .entry)) (now («colliding_step» .entry))
-        (now (boxes .entry)))
-        (movePlaces (now (distance .exit)) (now (step .exit)) (now (collides .exit)) (now («colliding_step» .exit))
-        (now (boxes .exit))) ⌝ }
-{
-    match answer {
-        MoveAnswer::Moved(r) => {
-            *distance = r.distance;
-            *step = r.step;
-            *collides = mark_of(r.collides);
-            *colliding_step = r.colliding_step;
-            *boxes = r.boxes;
-            0
-        }
-        MoveAnswer::Refused(n) => n,
-    }
-}
 
 #[no_mangle]
 pub extern "C" fn jorghipa_move(
@@ -73,7 +42,7 @@ pub extern "C" fn jorghipa_move(
         (movePlaces (now (distance .exit)) (now (step .exit)) (now (collides .exit)) (now («colliding_step» .exit))
         (now (boxes .exit)))) ⌝ }
 {
-    let number = one_body_refusal(kind, numbers);
+    let number = lists::one_body_refusal(kind, numbers);
     if number != 0 {
         return number;
     }
@@ -92,7 +61,7 @@ pub extern "C" fn jorghipa_move(
         most,
         intervals,
     };
-    let body = body_at(kind, numbers, 0);
+    let body = lists::body_at(kind, numbers, 0);
     let answer = moves::try_move(
         section,
         body,
@@ -100,5 +69,5 @@ pub extern "C" fn jorghipa_move(
         Travel { start, end, steps },
         settings,
     );
-    give_report(answer, distance, step, collides, colliding_step, boxes)
+    handing::give_report(answer, distance, step, collides, colliding_step, boxes)
 }

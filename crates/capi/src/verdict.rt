@@ -2,32 +2,14 @@
 ghost use Rattle.arith.specs.Vector.{vec};
 ghost use Rattle.boxes.specs.Boxes.{aabb};
 ghost use Rattle.bodies.specs.declared.shapes.Body.the-variants as body·kinds;
-ghost use Rattle.verdicts.specs.Verdicts.{told, bodyVerdict, convexVerdict};
+ghost use Rattle.verdicts.specs.Verdicts.{bodyVerdict, convexVerdict};
 ghost use Rattle.profile.specs.Vertices.{ball};
 ghost use Rattle.bands.specs.Band.{bar};
-ghost use Rattle.capi.specs.Interface.{Gives, mark};
+ghost use Rattle.handing.specs.Interface.{Gives, mark};
 use arith::Vec3;
 use bands::Cylinder;
 use profile::Aabb;
 use profile::Sphere;
-use verdicts::Verdict;
-
-// Puts a verdict into its place, and gives the number of a refusal.
-pub fn judge(verdict: Verdict, collision: &mut u32) -> u32
-    ensures { λ r. ⌜ Gives mark (told verdict) r (now (collision .entry)) (now (collision .exit)) ⌝ }
-{
-    match verdict {
-        Verdict::Clear => {
-            *collision = 0;
-            0
-        }
-        Verdict::Collision => {
-            *collision = 1;
-            0
-        }
-        Verdict::Refused(n) => n,
-    }
-}
 
 #[no_mangle]
 pub extern "C" fn jorghipa_verdict_sphere(
@@ -44,7 +26,7 @@ pub extern "C" fn jorghipa_verdict_sphere(
 {
     let center = Vec3 { x, y, z };
     let verdict = verdicts::verdict_sphere(section, Sphere { center, radius }, clearance);
-    judge(verdict, collision)
+    handing::judge(verdict, collision)
 }
 
 #[no_mangle]
@@ -61,7 +43,7 @@ pub extern "C" fn jorghipa_verdict_box(
         r (now (collision .entry)) (now (collision .exit)) ⌝ }
 {
     let verdict = verdicts::verdict_box(section, Aabb { z0, z1, r0, r1 }, clearance);
-    judge(verdict, collision)
+    handing::judge(verdict, collision)
 }
 
 #[no_mangle]
@@ -92,7 +74,7 @@ pub extern "C" fn jorghipa_verdict_cylinder(
         z: bz,
     };
     let verdict = verdicts::verdict_cylinder(section, Cylinder { a, b, radius }, clearance);
-    judge(verdict, collision)
+    handing::judge(verdict, collision)
 }
 
 #[no_mangle]
@@ -106,5 +88,5 @@ pub extern "C" fn jorghipa_verdict_convex(
         r (now (collision .entry)) (now (collision .exit)) ⌝ }
 {
     let verdict = verdicts::verdict_convex(section, convex, clearance);
-    judge(verdict, collision)
+    handing::judge(verdict, collision)
 }

@@ -1,9 +1,9 @@
 -- `capi::moving::jorghipa_move` meets its contract: the body's number, or the move's answer in the lent places.
 use borrow.Author.Needs.{needs}
 use mathlib.Core.Path.{sym, _∙_}
-use Rattle.capi.specs.Moves.{moveOf}
-use Rattle.capi.proofs.OneBody.{body-refused, body-taken, seven-given}
-use Rattle.capi.proofs.Same.{measures}
+use Rattle.capi.specs.Calls.{moveOf}
+use Rattle.lists.proofs.Taken.{seven-given}
+use Rattle.handing.proofs.Same.{measures, body-refused, body-taken}
 use Rattle.capi.proofs.moving.jorghipa_move.Statement.{statement}
 use Rattle.capi.proofs.moving.jorghipa_move.Tie as tie
 

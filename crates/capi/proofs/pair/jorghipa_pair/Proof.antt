@@ -1,10 +1,10 @@
 -- `capi::pair::jorghipa_pair` meets its contract: the body's number, or the pair's answer in the lent places.
 use borrow.Author.Needs.{needs}
 use mathlib.Core.Path.{sym, _∙_}
-use Rattle.capi.specs.Pairs.{pairOf}
-use Rattle.capi.proofs.OneBody.{body-refused, body-taken, seven-given}
-use Rattle.capi.proofs.Pairs.{pair-fits}
-use Rattle.capi.proofs.Same.{measures}
+use Rattle.capi.specs.Calls.{pairOf}
+use Rattle.lists.proofs.Taken.{seven-given}
+use Rattle.handing.proofs.Fits.{pair-fits}
+use Rattle.handing.proofs.Same.{measures, body-refused, body-taken}
 use Rattle.capi.proofs.pair.jorghipa_pair.Statement.{statement}
 use Rattle.capi.proofs.pair.jorghipa_pair.Tie as tie
 

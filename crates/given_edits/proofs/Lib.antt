@@ -1,0 +1,2 @@
+-- An edit as it is given.
+pub mod Edited

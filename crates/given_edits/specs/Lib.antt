@@ -1,0 +1,2 @@
+-- An edit as C gives it.
+pub mod Editing

@@ -1,0 +1,3 @@
+-- Bodies as they are read, and what their lists are where they are taken.
+pub mod BodiesRead
+pub mod Taken

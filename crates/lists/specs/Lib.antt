@@ -1,0 +1,2 @@
+-- Bodies as C gives them.
+pub mod Lists
