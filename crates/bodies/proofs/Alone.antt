@@ -21,6 +21,9 @@ own-numbered (Sphere b) = tt
 own-numbered (Box x) = tt
 own-numbered (Cylinder c) = tt
 
+pub alone-numbered : (b : Body) → T (numbered (aloneTests b))
+alone-numbered b = own-numbered b
+
 -- a body alone that passes: its numbers, and its own tests
 pub alone-taken : (b : Body) → refusal (aloneTests b) ≡ 0 → Taken 3 256 [] (bodyNumbers b) (bodyOwn b)
 unfolding refusal anyOf

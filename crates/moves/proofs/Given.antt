@@ -83,9 +83,6 @@ before-numbered (Sphere b) n = tt
 before-numbered (Box x) n = tt
 before-numbered (Cylinder c) n = tt
 
-pub alone-numbered : (b : Body) → T (numbered (aloneTests b))
-alone-numbered b = own-numbered b
-
 within : (least greatest n : ℕ) → T (not (outside least greatest n)) → (least ≤ n) × (n ≤ greatest)
 within least greatest n h = go (ltb n least) (ltb greatest n) (nltb→le n least) (nltb→le greatest n) h
   where
@@ -138,14 +135,16 @@ module _ (s : List Float) (b : Body) (clearance : Float) (v : Travel) (t : Setti
       all-rest (clearance ∷ []) (pointNumbers (v .start) ++ pointNumbers (v .end))
       (all-rest (bodyNumbers b) extra (all-rest s (bodyNumbers b ++ extra) (whole .numbers)))
 
-  -- the query of any body, beside this section, with these settings
+  -- the query of any body, beside this section, with these settings: its number, and its answer
+  pub tests-alone : (p : Body) → refusal (bodyTests s p [] (settingsTests t)) ≡ refusal (aloneTests p)
+  tests-alone p =
+      beside-alone s (whole .shapes) (all-first s (bodyNumbers b ++ extra) (whole .numbers))
+      (all-first (axisTests s) own (all-rest (settingsTests t) after (whole .rest-passes))) t
+      (all-first (settingsTests t) after (whole .rest-passes)) p
+
   pub query-alone : (p : Body) → bodyAnswer s p t ≡ reply (refusal (aloneTests p)) (bodyDistance s p t)
   unfolding bodyAnswer
-  query-alone p =
-      ap (λ (n : ℕ). reply n (bodyDistance s p t))
-      (beside-alone s (whole .shapes) (all-first s (bodyNumbers b ++ extra) (whole .numbers))
-      (all-first (axisTests s) own (all-rest (settingsTests t) after (whole .rest-passes))) t
-      (all-first (settingsTests t) after (whole .rest-passes)) p)
+  query-alone p = ap (λ (n : ℕ). reply n (bodyDistance s p t)) (tests-alone p)
 
   -- its verdict is given too
   pub verdict-given : (p : Body) → refusal (aloneTests p) ≡ 0 → refusal (bodyTests s p (clearance ∷ []) []) ≡ 0

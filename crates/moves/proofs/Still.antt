@@ -9,6 +9,7 @@ use mathlib.Core.List.{List}
 use mathlib.Core.Path.{_≡_, refl, ap, subst, sym, _∙_}
 use lib.Dec.{T, lit≤}
 use lib.Ieee.{Float, isNan}
+use mir.Facts.{T-not-not}
 use Rattle.arith.specs.F64.{_⊕_, _≺_, 𝟘, ∞}
 use Rattle.arith.specs.Num.{isFinite}
 use Rattle.arith.specs.Vector.{vec}
@@ -25,12 +26,12 @@ use Rattle.bodies.specs.declared.shapes.Body.{Body}
 use Rattle.verdicts.specs.Tilt.{judgedDistance}
 use Rattle.verdicts.specs.Verdicts.{collides}
 use Rattle.moves.specs.Placement.{offset, placed, placedAt}
-use Rattle.moves.specs.Moves.{beforePlacing, moveTests, untried, withStep, stepHit, reportUpto, moveAnswer, MovePromised}
+use Rattle.moves.specs.Moves.{beforePlacing, moveTests, untried, withStep, stepHit, reportUpto, moveAnswer}
 use Rattle.moves.specs.declared.shapes.Travel.{Travel}
 use Rattle.moves.specs.declared.shapes.Report.{Report}
 use Rattle.moves.proofs.Given.{steps-given, offsets-taken}
 use Rattle.moves.proofs.Order.{at-infinity, not-above}
-use Rattle.moves.proofs.Single.{passes, step-query, answer, promised-number}
+use Rattle.moves.proofs.Single.{passes, step-query, step-number, answer}
 use Rattle.moves.proofs.Zero.{offset-still}
 
 -- start + 0 is the start itself, but +0 where that is -0
@@ -99,17 +100,13 @@ upto-same f g a zero p = refl
 upto-same f g a (suc k) p = p k (omega arith) (upto f a k) ∙ ap (g k) (upto-same f g a k (λ i h. p i (omega (arith, h))))
 
 -- ---- the same placement at every step
-twice : (x : Bool) → T (not (not x)) → T x
-twice true h = tt
-twice false h = h
-
 offset-stood : (o : Vec3) → All NumberTaken (pointNumbers o) → (n i : ℕ) → 0 < n → n ≤ 2 ^ 53 → i ≤ 2 ^ 53
     → vec (offset (o .x) (o .x) n i) (offset (o .y) (o .y) n i) (offset (o .z) (o .z) n i) ≡ stood o
 offset-stood o (cons x (cons y (cons z nil))) n i N l k =
     rw (
-      offset-still (o .x) (twice (isFinite (o .x)) (x .finite)) n i N l k,
-      offset-still (o .y) (twice (isFinite (o .y)) (y .finite)) n i N l k,
-      offset-still (o .z) (twice (isFinite (o .z)) (z .finite)) n i N l k,
+      offset-still (o .x) (T-not-not (isFinite (o .x)) (x .finite)) n i N l k,
+      offset-still (o .y) (T-not-not (isFinite (o .y)) (y .finite)) n i N l k,
+      offset-still (o .z) (T-not-not (isFinite (o .z)) (z .finite)) n i N l k,
     )
 
 module _ (s : List Float) (b : Body) (clearance : Float) (v : Travel) (t : Settings) (same : v .end ≡ v .start)
@@ -144,18 +141,17 @@ module _ (s : List Float) (b : Body) (clearance : Float) (v : Travel) (t : Setti
       subst (λ (p : Body). bodyAnswer s p t ≡ value (bodyDistance s p t)) (placed-still 0 (omega arith))
       (step-query s b clearance v t e 0 (omega arith))
 
-  pub still : MovePromised s b v t (reportUpto s b clearance v t (v .steps + 1))
-      → moveAnswer s b clearance v t
+  pub still : moveAnswer s b clearance v t
       ≡ value (standing (placed b (stood (v .start))) (bodyDistance s (placed b (stood (v .start))) t) clearance
       ((v .steps + 1) * bodyDistance s (placed b (stood (v .start))) t .boxes))
-  still promise =
+  still =
       answer s b clearance v t e
       ∙ ap value (rw (add-one (v .steps)) (folded ∙ all-standing there hit clearance number (v .steps)))
     where
       number : T (not (isNan (hit .hit .distance)))
       number =
           subst (λ (p : Body). T (not (isNan (bodyDistance s p t .hit .distance)))) (placed-still 0 (omega arith))
-          (promised-number s t (placedAt b v 0) (stepHit s b v t 0) (promise .each 0 (omega arith)))
+          (step-number s b clearance v t e 0 (omega arith))
 
       folded : reportUpto s b clearance v t (suc (v .steps))
           ≡ upto (λ i r. withStep i there hit clearance r) untried (suc (v .steps))

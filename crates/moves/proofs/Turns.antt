@@ -21,13 +21,14 @@ use Rattle.walk.specs.declared.shapes.CountedHit.{CountedHit}
 use Rattle.bodies.specs.Bodies.{aloneTests, bodyDistance, bodyAnswer, BodyPromised}
 use Rattle.bodies.specs.declared.shapes.Body.{Body}
 use Rattle.bodies.specs.declared.shapes.Body.the-variants.{Sphere, Box, Cylinder}
+use Rattle.bodies.proofs.Alone.{alone-numbered}
 use Rattle.moves.specs.Placement.{placedAt}
 use Rattle.moves.specs.Moves.{beforePlacing, placedTests, moveTests, untried, withStep, stepHit, reportUpto, moveAnswer}
 use Rattle.moves.specs.Moves.{MovePromised}
 use Rattle.moves.specs.declared.shapes.Travel.{Travel}
 use Rattle.moves.specs.declared.shapes.Report.{Report}
 use Rattle.moves.proofs.Fields.{boxes-few}
-use Rattle.moves.proofs.Given.{alone-numbered, before-numbered, settings-pass, steps-given, query-alone}
+use Rattle.moves.proofs.Given.{before-numbered, settings-pass, steps-given, query-alone}
 use Rattle.moves.proofs.Ordered.{one-more, first-refused}
 
 -- ---- which case of a reply

@@ -1,9 +1,10 @@
 -- What the nearer of two hits is: not above either distance, whole the winner's, and the same when the sections change places,
 -- but for a tie. By the order of floats, which is total on all that are no NaN.
 use mathlib.Core.Bool.{Bool, true, false, not, _||_, cond}
-use mathlib.Core.Path.{_≡_, refl, sym, subst}
-use lib.Dec.{T}
+use mathlib.Core.Path.{_≡_, refl, subst}
+use lib.Dec.{T, T-not}
 use lib.Ieee.{Float, nan, inf, fin, isNan, lt, le, eq}
+use mir.Facts.{T-not-not}
 use Rattle.arith.specs.F64.{_≺_, _≼_}
 use Rattle.arith.proofs.Laws.Order.{finite-lt-is-not-le}
 use Rattle.walk.specs.declared.shapes.CountedHit.{CountedHit}
@@ -35,18 +36,10 @@ below-le x y h = or-first (x ≺ y) (eq x y) h
 
 module _ (x y : Float) (p : T (not (isNan x))) (q : T (not (isNan y))) where
   pub not-below-le : T (not (x ≺ y)) → T (y ≼ x)
-  not-below-le h = go (y ≼ x) (subst (λ (b : Bool). T (not b)) (lt-is-not-le x y p q) h)
-    where
-      go : (b : Bool) → T (not (not b)) → T b
-      go true k = tt
-      go false k = k
+  not-below-le h = T-not-not (y ≼ x) (subst (λ (b : Bool). T (not b)) (lt-is-not-le x y p q) h)
 
   pub never-both : T (x ≺ y) → T (y ≺ x) → ⊥
-  never-both h k = go (y ≼ x) (subst T (lt-is-not-le x y p q) h) (below-le y x k)
-    where
-      go : (b : Bool) → T (not b) → T b → ⊥
-      go true a b = a
-      go false a b = b
+  never-both h k = T-not (y ≼ x) (subst T (lt-is-not-le x y p q) h) (below-le y x k)
 
 -- ---- of two hits whose distances are no NaN
 abbrev distance : CountedHit → Float

@@ -3,14 +3,13 @@
 -- of a convex one.
 use Prim.Native.Nat.{ℕ}
 use mathlib.Core.Bool.{false, not}
-use mathlib.Core.List.{List, [], _++_}
+use mathlib.Core.List.{List, []}
 use mathlib.Core.Logic.{_⊎_, inl, inr}
-use mathlib.Core.Path.{_≡_, refl}
+use mathlib.Core.Path.{_≡_}
 use lib.Dec.{T}
 use lib.Ieee.{Float, isNan}
 use Rattle.arith.specs.F64.{_≺_}
 use Rattle.arith.proofs.Laws.Extended.{finite-not-nan}
-use Rattle.arith.proofs.Laws.Sizes.{finite-ends}
 use Rattle.profile.specs.Refusals.{Test, refusal, listTests, convexTests}
 use Rattle.profile.specs.Replies.{Reply, value, reply, mapped, OfValue}
 use Rattle.profile.specs.Steps.{numbered}
@@ -20,17 +19,15 @@ use Rattle.profile.proofs.Replies.{of-reply}
 use Rattle.convex.specs.Convex.{convexDistance}
 use Rattle.section.specs.Answers.{convexAnswer}
 use Rattle.section.specs.Demand.{Bounded}
-use Rattle.section.proofs.Demand.Queries.{sphere-bounded, box-bounded, convex-demand}
-use Rattle.settings.specs.Settings.{finest, settingsTests}
-use Rattle.settings.proofs.Taken.{finest-taken, settings-taken}
+use Rattle.section.proofs.Demand.Queries.{convex-demand}
+use Rattle.settings.specs.Settings.{finest}
 use Rattle.walk.specs.declared.shapes.CountedHit.{CountedHit}
-use Rattle.cylinders.proofs.Cover.Accepted.{accepted}
-use Rattle.cylinders.proofs.Demand.Cylinders.{cylinder-atMost}
-use Rattle.bodies.specs.Bodies.{aloneTests, bodyDistance, bodyTests, boxesOnly}
+use Rattle.bodies.specs.Bodies.{aloneTests, bodyDistance, boxesOnly}
 use Rattle.bodies.specs.declared.shapes.Body.{Body}
-use Rattle.bodies.specs.declared.shapes.Body.the-variants.{Sphere, Box, Cylinder}
+use Rattle.bodies.proofs.Alone.{alone-numbered}
+use Rattle.bodies.proofs.Number.{body-number}
 use Rattle.pairs.specs.Pairs.{Won, won, nearer, handedBack, oneSectionTests, pairTests, pairAnswer, pairConvexAnswer}
-use Rattle.pairs.proofs.Together.{AllTaken, all-taken, alone-numbered, body-passes, convex-passes}
+use Rattle.pairs.proofs.Together.{AllTaken, all-taken, body-passes, convex-passes}
 use Rattle.pairs.proofs.Nearer.{Lesser, nearer-lesser, smaller-wins, tie-first}
 
 -- the same hit, and the same list handed back
@@ -78,14 +75,6 @@ module _ (chuck work : List Float) (own : List Test) (numbers : T (numbered own)
     }
 
 -- ---- no distance is NaN
-body-number : (s : List Float) (b : Body) → refusal (bodyTests s b [] (settingsTests finest)) ≡ 0
-    → T (not (isNan (bodyDistance s b finest .hit .distance)))
-body-number s (Sphere b) e = sphere-bounded s [] (settingsTests finest) b tt e .number
-body-number s (Box x) e = finite-not-nan _ (box-bounded s [] (settingsTests finest) x tt e .distance .ends)
-body-number s (Cylinder c) e =
-    let A = accepted s c [] (settingsTests finest) tt e in
-    finite-not-nan _ (finite-ends (cylinder-atMost (A .section) (settings-taken finest finest-taken) (A .cylinder) .distance))
-
 convex-number : (c s : List Float) → refusal (convexTests c s []) ≡ 0 → T (not (isNan (convexDistance c s .distance)))
 unfolding convexAnswer
 convex-number c s e = finite-not-nan _ (go (refusal (convexTests c s [])) e (convex-demand c s) .distance .ends)
@@ -105,10 +94,10 @@ module _ (chuck work : List Float) (b : Body) where
   y = bodyDistance work b finest
 
   of-chuck : AllTaken chuck work tests → T (not (isNan (x .hit .distance)))
-  of-chuck t = body-number chuck b (body-passes chuck b (t .chuck-taken) (t .own-taken))
+  of-chuck t = body-number chuck b finest (body-passes chuck b (t .chuck-taken) (t .own-taken))
 
   of-work : AllTaken chuck work tests → T (not (isNan (y .hit .distance)))
-  of-work t = body-number work b (body-passes work b (t .work-taken) (t .own-taken))
+  of-work t = body-number work b finest (body-passes work b (t .work-taken) (t .own-taken))
 
   pub pair-lesser : OfValue (Lesser x y) (pairAnswer chuck work b)
   unfolding pairAnswer

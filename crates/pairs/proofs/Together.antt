@@ -10,7 +10,7 @@ use Rattle.arith.specs.F64.{_≺_}
 use Rattle.profile.specs.Refusals.{Test, refusal, anyBelowAxis, listTests, axisTests, convexTests}
 use Rattle.profile.specs.Replies.{Reply, value, reply, mapped, OfValue, Answers}
 use Rattle.profile.specs.Steps.{numbered, orElse}
-use Rattle.profile.proofs.Each.{All, nil, all-first, all-rest, all-append}
+use Rattle.profile.proofs.Each.{nil, all-first, all-rest, all-append}
 use Rattle.profile.proofs.Refusals.Ordered.{none-applies, all-pass, refusal-append}
 use Rattle.profile.proofs.Refusals.Passed.{Taken, taken, passed}
 use Rattle.profile.proofs.Replies.{mapped-answers, mapped-reply}
@@ -23,7 +23,7 @@ use Rattle.settings.proofs.Taken.{finest-taken}
 use Rattle.walk.specs.declared.shapes.CountedHit.{CountedHit}
 use Rattle.bodies.specs.Bodies.{aloneTests, bodyNumbers, bodyOwn, bodyTests, boxesOnly}
 use Rattle.bodies.specs.declared.shapes.Body.{Body}
-use Rattle.bodies.proofs.Alone.{own-numbered, alone-taken}
+use Rattle.bodies.proofs.Alone.{alone-taken}
 use Rattle.pairs.specs.Pairs.{Won, won, nearer, winner, oneSectionTests, pairTests}
 use Rattle.pairs.specs.Steps.{nearerOf}
 
@@ -63,9 +63,6 @@ all-taken chuck work own h e =
       work-taken = all-pass (all-first (oneSectionTests work) own q);
       own-taken = all-pass (all-rest (oneSectionTests work) own q);
     }
-
-pub alone-numbered : (b : Body) → T (numbered (aloneTests b))
-alone-numbered b = own-numbered b
 
 section-taken : (s : List Float) → refusal (oneSectionTests s) ≡ 0 → Taken 3 256 (s ∷ []) s (axisTests s)
 section-taken s e = taken 3 256 (s ∷ []) s (axisTests s) tt e

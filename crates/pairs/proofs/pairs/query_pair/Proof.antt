@@ -1,13 +1,13 @@
 -- `pairs::pairs::query_pair` meets its contract: the first number in the order, or the nearer of two values, since both
 -- queries pass.
 use borrow.Author.Needs.{needs}
-use mathlib.Core.Path.{_≡_, sym, _∙_}
-use Rattle.profile.specs.Refusals.{refusal}
+use mathlib.Core.Path.{sym, _∙_}
 use Rattle.profile.proofs.Replies.{refused}
 use Rattle.settings.specs.Settings.{finest}
 use Rattle.bodies.specs.Bodies.{aloneTests, bodyAnswer, BodyPromised}
 use Rattle.pairs.specs.Pairs.{pairAnswer}
-use Rattle.pairs.proofs.Together.{all-taken, alone-numbered, body-passes, both-then-own, together}
+use Rattle.bodies.proofs.Alone.{alone-numbered}
+use Rattle.pairs.proofs.Together.{all-taken, body-passes, both-then-own, together}
 use Rattle.pairs.proofs.pairs.query_pair.Statement.{statement}
 use Rattle.pairs.proofs.pairs.query_pair.Tie as tie
 
