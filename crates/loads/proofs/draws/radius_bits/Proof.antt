@@ -15,13 +15,13 @@ coordinate-requires c κs = search needs
 abs-requires : tie.Need-abs-requires
 abs-requires c κs = search needs
 
+returns : tie.Need-returns
+returns c = ap (toBits binary64) (c .abs .ensures ∙ ap abs (c .before .coordinate .ensures))
+
 float-to-bits-result : tie.Need-float-to-bits-result
 float-to-bits-result c =
     let radius = c .abs .ensures ∙ ap abs (c .before .coordinate .ensures) in
     subst (λ (x : Float). T (not (isNan x))) (sym radius) (no-nan _ _ (radius-ranged _))
-
-returns : tie.Need-returns
-returns c = ap (toBits binary64) (c .abs .ensures ∙ ap abs (c .before .coordinate .ensures))
 
 pub radius-bits-spec : {M : Type 1} → statement M
 radius-bits-spec =
