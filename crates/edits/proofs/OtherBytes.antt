@@ -54,7 +54,8 @@ unfolding written
 same-length s n (Record k) bytes = length-sets s (k * 40) bytes
 same-length s n Add bytes =
     let m = freeRecord (take n s) in
-    length-sets (sets s (m * 40) (ending bytes)) (lastRecord (take n s) * 40) (nextBytes m) ∙ length-sets s (m * 40) (ending bytes)
+    length-sets (sets s (m * 40) (ending bytes)) (lastRecord (take n s) * 40) (nextBytes m)
+    ∙ length-sets s (m * 40) (ending bytes)
 
 pub same-space : (h : Space) (e : Edit) → length (edited h e .all) ≡ length (h .all)
 same-space h e =

@@ -1,11 +1,10 @@
 -- The numbers that the parts of the verdict give: each part has its own, and an answer has another's only from that part.
 use Prim.Native.Nat.{ℕ, zero, suc, _≤_}
-use native.Mathlib.Omega.{arith}
 use mathlib.Core.Bool.{Bool, true, false, cond, true≢false}
 use mathlib.Core.List.{List, [], _∷_}
-use mathlib.Core.Path.{_≡_, refl, sym, ap, _∙_}
+use mathlib.Core.Path.{_≡_, refl, sym, _∙_}
 use lib.Ieee.{Float}
-use Rattle.profile.specs.Refusals.{listTests, refusal}
+use Rattle.profile.specs.Refusals.{listTests}
 use Rattle.profile.proofs.Refusals.Ordered.{refusal-most}
 use Rattle.store.specs.First.{firstRefused}
 use Rattle.store.specs.Chain.{Chain, whole, broken}

@@ -14,13 +14,15 @@ body-answer-requires c κs = search needs
 put-decimal-requires : tie.Need-put-decimal-requires
 put-decimal-requires c κs =
     let c₁ = c .before in
-    let room = rw (line-of _ _ _ (c₁ .body-answer .result) (c₁ .body-answer .ensures)) at (c₁ .before .before .before .before .pre) in
+    let line = line-of _ _ _ (c₁ .body-answer .result) (c₁ .body-answer .ensures) in
+    let room = rw line at (c₁ .before .before .before .before .pre) in
     omega (arith, simp length-append at room)
 
 put-answer-requires : tie.Need-put-answer-requires
 put-answer-requires c κs =
     let c₅ = c .before .before .before .before .before in
-    let room = rw (line-of _ _ _ (c₅ .body-answer .result) (c₅ .body-answer .ensures)) at (c₅ .before .before .before .before .pre) in
+    let line = line-of _ _ _ (c₅ .body-answer .result) (c₅ .body-answer .ensures) in
+    let room = rw line at (c₅ .before .before .before .before .pre) in
     omega (arith, simp length-append at room)
 
 slice-aggregate-put-word : tie.Need-slice-aggregate-put-word
@@ -31,7 +33,8 @@ unfolding text
 put-word-requires c κs =
     let c₅ = c .before .before .before .before .before in
     let c₁₀ = c₅ .before .before .before .before .before in
-    let room = rw (line-of _ _ _ (c₁₀ .body-answer .result) (c₁₀ .body-answer .ensures)) at (c₁₀ .before .before .before .before .pre) in
+    let line = line-of _ _ _ (c₁₀ .body-answer .result) (c₁₀ .body-answer .ensures) in
+    let room = rw line at (c₁₀ .before .before .before .before .pre) in
     omega (arith, simp length-append at room)
 
 same-length : tie.Need-same-length
@@ -44,8 +47,8 @@ returns c =
     let c₇ = c₂ .before .before .before .before .before in
     let c₁₁ = c₇ .before .before .before .before in
     let c₁₃ = c₁₁ .before .before in
-    rw (line-of _ _ _ (c₁₃ .body-answer .result) (c₁₃ .body-answer .ensures)) (then (then (c₁₁ .put-decimal .ensures) (c₇ .put-answer .ensures))
-    (c₂ .put-word .ensures))
+    rw (line-of _ _ _ (c₁₃ .body-answer .result) (c₁₃ .body-answer .ensures))
+    (then (then (c₁₁ .put-decimal .ensures) (c₇ .put-answer .ensures)) (c₂ .put-word .ensures))
 
 pub put-body-line-spec : {M : Type 1} → statement M
 put-body-line-spec =

@@ -24,18 +24,25 @@ slice-aggregate-put-word-2 c = search needs
 
 put-word-requires-2 : tie.Need-put-word-requires-2
 unfolding refusalLine text
-put-word-requires-2 c κs = omega (arith, simp length-append at (c .before .before .before .before .before .before .before .before .before .before .before .before .pre))
+put-word-requires-2 c κs =
+    let c₁₀ = c .before .before .before .before .before .before .before .before .before .before in
+    omega (arith, simp length-append at (c₁₀ .before .before .pre))
 
 put-decimal-requires-2 : tie.Need-put-decimal-requires-2
 unfolding refusalLine text
-put-decimal-requires-2 c κs = omega (arith, simp length-append at (c .before .before .before .before .before .before .before .before .before .before .before .before .before .before .before .before .pre))
+put-decimal-requires-2 c κs =
+    let c₁₀ = c .before .before .before .before .before .before .before .before .before .before in
+    omega (arith, simp length-append at (c₁₀ .before .before .before .before .before .before .pre))
 
 slice-aggregate-put-word-3 : tie.Need-slice-aggregate-put-word-3
 slice-aggregate-put-word-3 c = search needs
 
 put-word-requires-3 : tie.Need-put-word-requires-3
 unfolding refusalLine text
-put-word-requires-3 c κs = omega (arith, simp length-append at (c .before .before .before .before .before .before .before .before .before .before .before .before .before .before .before .before .before .before .before .before .before .pre))
+put-word-requires-3 c κs =
+    let c₁₀ = c .before .before .before .before .before .before .before .before .before .before in
+    let c₂₀ = c₁₀ .before .before .before .before .before .before .before .before .before .before in
+    omega (arith, simp length-append at (c₂₀ .before .pre))
 
 same-length : tie.Need-same-length
 same-length c = search needs

@@ -17,14 +17,17 @@ put-word-requires c κs = omega (arith, simp length-append at (c .before .before
 
 put-decimal-requires : tie.Need-put-decimal-requires
 unfolding sectionLine text
-put-decimal-requires c κs = omega (arith, simp length-append at (c .before .before .before .before .before .before .before .before .pre))
+put-decimal-requires c κs =
+    omega (arith, simp length-append at (c .before .before .before .before .before .before .before .before .pre))
 
 slice-aggregate-put-word-2 : tie.Need-slice-aggregate-put-word-2
 slice-aggregate-put-word-2 c = search needs
 
 put-word-requires-2 : tie.Need-put-word-requires-2
 unfolding sectionLine text
-put-word-requires-2 c κs = omega (arith, simp length-append at (c .before .before .before .before .before .before .before .before .before .before .before .before .before .pre))
+put-word-requires-2 c κs =
+    let c₁₀ = c .before .before .before .before .before .before .before .before .before .before in
+    omega (arith, simp length-append at (c₁₀ .before .before .before .pre))
 
 same-length : tie.Need-same-length
 same-length c = search needs
