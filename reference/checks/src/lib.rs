@@ -16,6 +16,7 @@ pub mod port;
 pub mod query;
 pub mod root_cases;
 pub mod shrink;
+pub mod symmetry;
 pub mod walk;
 
 pub use random;
