@@ -1,35 +1,61 @@
-/* Jorghipa: distances between a turned half-section and the bodies beside it.
+/* Jorghipa: distances between a turned half-section and the bodies beside it, for lathe controls.
  *
- * All lengths are mm. A section is 3 to 256 vertices of a polygon in (z, radius), given as a pointer to the
- * numbers z, radius, z, radius, .. and the count of NUMBERS (twice the vertices); the last vertex joins the first.
- * A convex body is given likewise. Every coordinate, bound, radius and clearance has magnitude at most 1,048,576.
+ * ---- Shapes
+ * All lengths are mm; z runs along the spindle, a radius is a distance from it. No coordinate, bound, radius or clearance has a
+ * magnitude over 1,048,576. A section is 3 to 256 vertices of a closed polygon in (z, radius), the last joined to the first: a
+ * pointer to the numbers z, radius, z, radius, .. and the count of NUMBERS, twice the vertices. A convex body is given likewise.
  *
- * A distance is negative inside, 0 on contact. Its witness is a point (z, radius) of the section, and *edge the number of
- * the edge that supplied it: edge k starts at vertex k, counted from 0. Beside a section nowhere over 1e-9 from the axis, a
- * point or a sphere is at +infinity with the first vertex as witness, and edge 0.
+ * A PROFILE IS NOT A SECTION. The points along a chuck's outside are open towards the axis. Handed over as they are, they count
+ * as a polygon that is closed straight from the last to the first. Between that edge and the axis there is then no solid, and a
+ * tool in there is told clear. Nothing checks this: jorghipa_build_section closes a profile to the axis.
  *
- * Each call returns 0, or the number of the first test that applies, and then changes nothing that it was lent; only
- * jorghipa_read_store then names the record. The tests,
- * in their order; each call makes those that it names, each over all lists and numbers that it is given:
- *    1  odd count of numbers                  6  section or polygon radius below -1e-9
- *    2  fewer than 3 vertices (2 points)      7  space too small (builder)
- *    3  over 256 vertices (254 points)        8  under 3 vertices kept (builder)
- *    4  a number is NaN or infinite           9  body radius below 0
- *    5  a magnitude over the limit           10  z1 < z0 or r1 < r0
- *   18  a setting out of range or not finite 11  cylinder neither along the spindle nor across it
- *   14  body of an unknown kind              17  more than 64 bodies (assembly)
- *                                            19  no step, or more than 4,096 (move)
- * So 18 stands between 5 and 6. 4 and 5 do not look at the settings: a tolerance of NaN is 18. The numbers of a store and of
- * its edits stand with their calls, below.
+ * ---- What a distance means
+ * Negative inside, 0 on contact. The witness is a point (z, radius) of the section, and *edge the number of the edge that
+ * supplied it: edge k starts at vertex k, counted from 0.
+ *    below 0     an overlap. Of a point or a sphere it is how deep. Of any other body IT IS NO DEPTH: the body is probed at some
+ *                points alone, and -1e-8 marks an overlap that none of them measured, be it of micrometres or of centimetres.
+ *                The witness is then a vertex of the section within the body, or a place where an edge enters it
+ *    +infinity   of a point or a sphere beside a section nowhere over 1e-9 from the axis: there is no surface. The witness is
+ *                the first vertex, the edge 0
+ *    *cut = 1    of a cylinder across the spindle, whose walk measured its last box with a piece still due. The distance is then
+ *                the least of the boxes': safe for a bar that clears, but possibly millimetres low. Common at the finest
+ *                settings; jorghipa_cylinder says which avoid it
+ * A cylinder lies along z, x or y, and may lean a little: along z by 1.4e-4 radians, which over a metre is 0.07 mm at each end;
+ * across the spindle as much towards the other axis across, and 1e-8 towards z. Its distance is that of the bar as if straight.
+ * A verdict counts the lean: it takes off half of what the ends stand apart, seen along the axis. So does a move's collision.
+ *
+ * ---- What is promised, and proved for every argument, NaN and infinities too
+ * A call ends, and returns 0 or the number of the first of its tests that is true, of enum jorghipa_refusal:
+ *    0           the answer is in the lent places. A distance is never NaN, and at most 2^28 in magnitude or the +infinity above
+ *    a number    nothing that was lent has changed. *collision, *hit and *collides are what they were: SET THEM TO 1 BEFORE THE
+ *                CALL, and a refusal that goes unnoticed stops the machine. Only jorghipa_read_store then writes a place
+ * Nothing is kept between calls; there is no heap, no global, no file: calls may run beside each other. The archive asks the
+ * linker for memcpy and memset alone; no libm. CONTRACTS.txt, beside a staged header, has the contracts.
+ *
+ * ---- What is needed, and nothing checks
+ * Pointers   valid for their count, aligned, and not null even at count 0. No place that is lent for writing overlaps any other
+ *            place that is lent to the same call
+ * Floats     rounded to nearest, subnormals kept, all traps masked, as when a program starts. With another rounding the answers
+ *            differ. Most calls raise INEXACT, a cylinder whose ends a and b are the same also DIVBYZERO and INVALID
+ * Machine    x86-64, ELF, the System V calling convention
+ * Stack      in bytes, whatever is asked: a root or a builder 200, a point or a sphere 720, a box or a convex body 1,400, a
+ *            cylinder, its verdict, a pair or a move 4,300, an assembly 11,600, reading a store 6,900, editing one 29,600.
+ *            Nothing calls itself. Where a program binds lazily, its first memset or memcpy takes the dynamic linker's besides
+ * Time       grows as boxes times edges. A box, or a cylinder along the spindle, is one box; a cylinder across is up to `most`,
+ *            which is 8,192 where a call takes no settings; a pair measures twice, an assembly each body, a move steps + 1 times.
+ *            The longest walk, 8,192 boxes beside 256 edges, took 160 to 310 ms on a 2-core virtual machine, about 0.1 us a
+ *            box and edge; a box beside 256 edges 0.02 ms, a point 0.005 ms. bindings/c/costs.c measures both on yours
+ *
+ * ---- The order of the tests
+ * 1 2 3 4 5 18 6 7 8 9 10 11, of which a call makes those that it names, each over all lists and numbers that it is given. So 18
+ * stands between 5 and 6. 4 and 5 do not look at the settings: a tolerance of NaN is 18. A call with another order says so.
  *
  * jorghipa_records.h has the queries of a point, sphere, box and cylinder over an array of vertices.
- *
- * What the caller owes, and nothing checks: every pointer is valid for its count, aligned, and not null even at
- * count 0; and no place that is lent for writing overlaps any other place that is lent to the same call.
  */
 #ifndef JORGHIPA_H
 #define JORGHIPA_H
 
+#include "jorghipa_names.h"
 #include <stddef.h>
 #include <stdint.h>
 
@@ -84,6 +110,8 @@ uint32_t jorghipa_build_polygon(const double *points, size_t points_count, doubl
  *    tolerance   1e-9 to 1 mm: how closely a piece's bounds must agree before it is left as it is
  *    most        1 to 8,192: the most boxes that are measured
  *    intervals   1 to 64: the intervals between samples
+ * Take 0.001, 8,192, 16 to finish and 0.01, 8,192, 16 to rough: of 2,000 drills and holders none was cut, and what was reported
+ * lay at most 0.02 and 0.08 mm above a dense sampling. At the finest 1,548 were cut, one of them 7.6 mm low (docs/SCOPE.md).
  * Along the spindle, and at radius at most 1e-15, one box is measured at every setting. */
 uint32_t jorghipa_cylinder(const double *section, size_t section_count, double ax, double ay, double az, double bx,
                            double by, double bz, double radius, double tolerance, uint32_t most, uint32_t intervals,
@@ -107,9 +135,10 @@ uint32_t jorghipa_lifted_cylinder(const double *section, size_t section_count, d
                                   double *witness_y, double *witness_z, uint32_t *edge, uint32_t *boxes,
                                   uint32_t *waiting, uint32_t *cut);
 
-/* *collision is 1 exactly when the judged distance + 1e-9 < clearance, else 0. Numbers of the query without 18; 4 and 5
- * for the clearance. A cylinder is measured at the finest settings. What is judged is the distance itself; of a cylinder,
- * whose axis may lean a little, the distance less half of
+/* *collision is 1 exactly when the judged distance + 1e-9 < clearance, else 0; set it to 1 before the call. Numbers of the query
+ * without 18; 4 and 5 for the clearance. A cylinder is measured at the finest settings, so that a bar whose walk is cut may be
+ * called a collision though it clears by millimetres. What is judged is the distance itself; of a cylinder, whose axis may lean
+ * a little, the distance less half of
  *    hypot(ax - bx, ay - by)   along the spindle
  *    hypot(ay - by, az - bz)   across it along x
  *    hypot(ax - bx, az - bz)   across it along y */
@@ -126,9 +155,8 @@ uint32_t jorghipa_verdict_cylinder(const double *section, size_t section_count, 
 uint32_t jorghipa_verdict_convex(const double *convex, size_t convex_count, const double *section,
                                  size_t section_count, double clearance, uint32_t *collision);
 
-/* Does anything of an assembly hit? Body i of `count` has the kind kinds[i], 2 a sphere, 3 a box, 4 a cylinder, and the seven
- * numbers from numbers[7 * i] on, of which it takes the first:
- *    2  x y z radius      3  z0 z1 r0 r1      4  ax ay az bx by bz radius
+/* Does anything of an assembly hit? Body i of `count` has the kind kinds[i] of enum jorghipa_kind, and the seven numbers from
+ * numbers[7 * i] on, of which it takes the first; the rest is not looked at.
  * *hit is 1 exactly when the verdict on some body is collision, else 0; of no body it is 0. The tests, in their order: 1 where
  * numbers_count is not 7 * count; 14 for another kind, where count is at most 64; 1 to 6 of section and clearance; 17 where count
  * is over 64; then the first bad body's 4, 5, 9, 10 or 11, also where a body before it collides. */
@@ -139,10 +167,7 @@ uint32_t jorghipa_any_hit(const double *section, size_t section_count, const uin
  * one. *winner is 0 for the chuck, 1 for the work; the other places are those of the winner, as of a cylinder. A sphere and a
  * convex polygon count no box, a box one; nothing waits, uncut. A cylinder is measured at the finest settings.
  *
- * The body's kind and seven numbers, of which the rest is not looked at:
- *    2  sphere    x, y, z, radius
- *    3  box       z0, z1, r0, r1
- *    4  cylinder  ax, ay, az, bx, by, bz, radius
+ * The body's kind is one of enum jorghipa_kind, and it has seven numbers, of which it takes the first.
  *
  * The order: 1 where numbers_count is not 7, 14 for another kind; 1 to 6 of the chuck, 1 to 6 of the work; then of the body
  * 4 and 5, and 9, or 10, or 9 and 11. */
@@ -174,7 +199,7 @@ uint32_t jorghipa_move(const double *section, size_t section_count, uint32_t kin
                        uint32_t intervals, double *distance, uint32_t *step, uint32_t *collides,
                        uint32_t *colliding_step, uint32_t *boxes);
 
-/* ---- stores: docs/STORES.md says what the records are
+/* ---- Stores: docs/STORES.md says what the records are
  *
  * A store is 1 to 512 records of 40 bytes. Its tests, in their order:
  *   12  the length is no multiple of 40      13  a next past the end, or a record for the second time
@@ -186,7 +211,7 @@ uint32_t jorghipa_move(const double *section, size_t section_count, uint32_t kin
 uint32_t jorghipa_read_store(const uint8_t *store, size_t store_count, uint32_t *record);
 
 /* Edits a store that lies at the front of a space of 20,480 bytes and is `length` bytes long. *length_after is its length
- * afterwards. role 1 is the setter, any other number the operator. The tests, in their order:
+ * afterwards. role is of enum jorghipa_role: 1 the setter, any other number the operator. The tests, in their order:
  *   12  bytes_count is not 40, or space_count not 20,480
  *       the store's, as above; a length past the space is 12 or 16
  *   24  (replace) the record is not on the chain

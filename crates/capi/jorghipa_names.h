@@ -19,26 +19,26 @@ enum jorghipa_refusal {
     JORGHIPA_REFUSED_TOO_FEW_VERTICES = 2,   /* fewer than 3 vertices; of a builder's points, than 2 */
     JORGHIPA_REFUSED_TOO_MANY_VERTICES = 3,  /* over 256 vertices; of a builder's points, over 254 */
     JORGHIPA_REFUSED_NOT_FINITE = 4,         /* a number is NaN or infinite */
-    JORGHIPA_REFUSED_OVER_LIMIT = 5,         /* a magnitude over 1,048,576 mm */
-    JORGHIPA_REFUSED_BELOW_AXIS = 6,         /* a radius below -1e-9 of the section or of a builder's point */
+    JORGHIPA_REFUSED_TOO_LARGE = 5,          /* a magnitude over 1,048,576 mm */
+    JORGHIPA_REFUSED_RADIUS_BELOW_AXIS = 6,  /* a radius below -1e-9 of the section or of a builder's point */
     JORGHIPA_REFUSED_SPACE_TOO_SMALL = 7,    /* a builder's space */
     JORGHIPA_REFUSED_TOO_FEW_KEPT = 8,       /* a builder keeps fewer than 3 vertices */
     JORGHIPA_REFUSED_NEGATIVE_RADIUS = 9,    /* a body's radius below 0 */
-    JORGHIPA_REFUSED_BOUNDS_REVERSED = 10,   /* z1 < z0 or r1 < r0 */
-    JORGHIPA_REFUSED_OBLIQUE_AXIS = 11,      /* a cylinder neither along the spindle nor across it, along x or y */
+    JORGHIPA_REFUSED_REVERSED_BOUNDS = 10,   /* z1 < z0 or r1 < r0 */
+    JORGHIPA_REFUSED_SKEW_CYLINDER = 11,     /* a cylinder neither along the spindle nor across it, along x or y */
     JORGHIPA_REFUSED_STORE_LENGTH = 12,      /* no multiple of 40 bytes; of an edit, the size of its space or of its bytes */
-    JORGHIPA_REFUSED_BROKEN_CHAIN = 13,      /* a next past the end of the store, or a record for the second time */
+    JORGHIPA_REFUSED_BAD_LINK = 13,          /* a next past the end of the store, or a record for the second time */
     JORGHIPA_REFUSED_WRONG_KIND = 14,        /* a record, or a body, of no known kind */
     JORGHIPA_REFUSED_EMPTY_STORE = 15,       /* no byte at all */
     JORGHIPA_REFUSED_TOO_MANY_RECORDS = 16,  /* over 512 */
     JORGHIPA_REFUSED_TOO_MANY_BODIES = 17,   /* over 64 in an assembly */
-    JORGHIPA_REFUSED_BAD_SETTING = 18,       /* of the walk: out of range or not finite */
+    JORGHIPA_REFUSED_BAD_SETTINGS = 18,      /* of the walk: out of range or not finite */
     JORGHIPA_REFUSED_BAD_STEPS = 19,         /* of a move: none, or over 4,096 */
-    JORGHIPA_REFUSED_SEED_ZERO = 20,         /* of a test load, which no C call makes */
-    JORGHIPA_REFUSED_LOAD_VERTICES = 21,     /* of a test load: fewer than 3, or over 256 */
-    JORGHIPA_REFUSED_NOT_ALLOWED = 22,       /* to an operator: an edit of record 0, of a vertex or of a link, or a new vertex */
-    JORGHIPA_REFUSED_NO_ROOM = 23,           /* 512 records, all on the chain */
-    JORGHIPA_REFUSED_NOT_THERE = 24          /* the record is not on the chain */
+    JORGHIPA_REFUSED_BAD_SEED = 20,          /* of a test load, which no C call makes */
+    JORGHIPA_REFUSED_BAD_LOAD = 21,          /* of a test load: fewer than 3, or over 256 */
+    JORGHIPA_REFUSED_SETTERS_EDIT = 22,      /* an operator's edit of record 0, of a vertex or of a link, or a new vertex */
+    JORGHIPA_REFUSED_STORE_FULL = 23,        /* 512 records, all on the chain */
+    JORGHIPA_REFUSED_NO_SUCH_RECORD = 24     /* the record is not on the chain */
 };
 
 /* The kind of a body, as in a store, and the numbers that it takes of its seven. */

@@ -1,18 +1,37 @@
-/* Jorghipa over records: jorghipa.h's queries with the section as an array of vertices, the body as a record, and the
- * answer as a record.
+/* Jorghipa over records: jorghipa.h's queries with the section as an array of vertices, the body as a record, and the answer as
+ * a record. So a section is counted in vertices here, never in numbers.
  *
- * A section is a pointer to 3 to 256 vertices and their count; the last joins the first. All lengths are mm, each of
- * magnitude at most 1,048,576. A distance is negative inside, 0 on contact; its witness is a point of the section, and edge
- * the number of the edge that supplied it: edge k starts at vertex k, counted from 0.
+ * ---- Shapes
+ * All lengths are mm, none over 1,048,576 in magnitude; z runs along the spindle, a radius is a distance from it. A section is a
+ * pointer to 3 to 256 vertices of a closed polygon, the last joined to the first, and their count. A PROFILE IS NOT A SECTION:
+ * it is open towards the axis, and what lies there is then no solid. Close it, by (last z, 0) and (first z, 0).
  *
- * The number of a reply is 0, or the lowest that applies of jorghipa.h's table, and then every other field is 0. A count
- * of vertices cannot be odd, so number 1 is never given; nor is 18, since these calls keep the finest settings.
+ * ---- What a reply means
+ * LOOK AT number FIRST. 0 is an answer. Any other is the lowest that applies, of enum jorghipa_refusal, and all other fields are
+ * then 0: a distance of 0 that nobody measured. A count of vertices cannot be odd, so number 1 is never given; nor is 18, since
+ * these calls keep the finest settings.
  *
- * What the caller owes, and nothing checks: the pointer is valid for its count, aligned, and not null even at count 0.
+ * A distance is negative inside, 0 on contact; the witness is a point of the section, and edge k, which supplied it, starts at
+ * vertex k, counted from 0. A negative distance is no depth but of a point or a sphere: -1e-8 marks an overlap that no probe
+ * measured. At +infinity, for a point or a sphere, the section is nowhere over 1e-9 from the axis. Where cut is true the
+ * distance is safe for a bar that clears, but possibly millimetres low; jorghipa_cylinder of jorghipa.h has settings that avoid
+ * it. A bar may lean a little, and is measured as if straight. jorghipa.h says all this in full.
+ *
+ * ---- What is promised, and proved for every argument
+ * A call ends and writes nowhere but into its reply. Nothing is kept between calls; there is no heap, no global, no file: calls
+ * may run beside each other. The archive asks the linker for memset alone; no libm.
+ *
+ * ---- What is needed, and nothing checks
+ * Pointers   valid for their count, aligned, and not null even at count 0
+ * Floats     rounded to nearest, subnormals kept, all traps masked; a bar whose ends are the same raises DIVBYZERO and INVALID
+ * Machine    x86-64, ELF, the System V calling convention
+ * Stack      in bytes, whatever is asked: a point or a sphere 4,700, a box 5,500, a bar 7,000; the vertices are copied there
+ * Time       that of the query of jorghipa.h
  */
 #ifndef JORGHIPA_RECORDS_H
 #define JORGHIPA_RECORDS_H
 
+#include "jorghipa_names.h"
 #include <stdbool.h>
 #include <stddef.h>
 #include <stdint.h>
@@ -59,7 +78,7 @@ typedef struct {
     bool cut;
 } jorghipa_cylinder_reply;
 
-/* Numbers 2 to 5; for a ball and a bar also 9, for bounds 10, for a bar 11. */
+/* Numbers 2 to 6; for a ball and a bar also 9, for bounds 10, for a bar 11. */
 jorghipa_reply jorghipa_point_of(const jorghipa_vertex *section, size_t count, jorghipa_place place);
 
 jorghipa_reply jorghipa_sphere_of(const jorghipa_vertex *section, size_t count, jorghipa_ball ball);
