@@ -14,10 +14,13 @@ int main(void) {
     size_t length = sizeof store;
     uint32_t record = 0;
     memcpy(space, store, sizeof store);
-    printf("moved %u\n", (unsigned)jorghipa_replace(space, sizeof space, length, 2, 5, (const uint8_t *)&box, 40, &length));
-    printf("vertex %u\n",
-           (unsigned)jorghipa_replace(space, sizeof space, length, 2, 4, (const uint8_t *)&vertex, 40, &length));
-    printf("added %u", (unsigned)jorghipa_add(space, sizeof space, length, 2, (const uint8_t *)&sphere, 40, &length));
+    uint32_t refused;
+    refused = jorghipa_replace(space, sizeof space, length, JORGHIPA_ROLE_OPERATOR, 5, (const uint8_t *)&box, 40, &length);
+    printf("moved %u\n", (unsigned)refused);
+    refused = jorghipa_replace(space, sizeof space, length, JORGHIPA_ROLE_OPERATOR, 4, (const uint8_t *)&vertex, 40, &length);
+    printf("vertex %u\n", (unsigned)refused);
+    refused = jorghipa_add(space, sizeof space, length, JORGHIPA_ROLE_OPERATOR, (const uint8_t *)&sphere, 40, &length);
+    printf("added %u", (unsigned)refused);
     printf(", length %u, read %u\n", (unsigned)length, (unsigned)jorghipa_read_store(space, length, &record));
     return 0;
 }

@@ -8,8 +8,8 @@ int main(void) {
     const double sphere[7] = {0, 0, 30, 4, 0, 0, 0};
     double distance, z, radius;
     uint32_t winner, edge, boxes, waiting, cut;
-    uint32_t refused = jorghipa_pair(chuck, 8, work, 8, 2, sphere, 7, &winner, &distance, &z, &radius, &edge, &boxes,
-                                     &waiting, &cut);
+    uint32_t refused = jorghipa_pair(chuck, 8, work, 8, JORGHIPA_KIND_SPHERE, sphere, 7, &winner, &distance, &z, &radius,
+                                     &edge, &boxes, &waiting, &cut);
     if (refused == 0) printf("%s, distance %g, edge %u\n", winner ? "work" : "chuck", distance, (unsigned)edge);
     return (int)refused;
 }
