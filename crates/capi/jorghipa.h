@@ -24,13 +24,14 @@
  * across the spindle as much towards the other axis across, and 1e-8 towards z. Its distance is that of the bar as if straight.
  * A verdict counts the lean: it takes off half of what the ends stand apart, seen along the axis. So does a move's collision.
  *
- * ---- What is promised, and proved for every argument, NaN and infinities too
- * A call ends, and returns 0 or the number of the first of its tests that is true, of enum jorghipa_refusal:
+ * ---- What is promised
+ * Proved for every argument, NaN and infinities too: a call ends, writes nowhere but into what it was lent, and returns 0 or the
+ * number of the first of its tests that is true, of enum jorghipa_refusal. CONTRACTS.txt, beside a staged header, has it in full.
  *    0           the answer is in the lent places. A distance is never NaN, and at most 2^28 in magnitude or the +infinity above
  *    a number    nothing that was lent has changed. *collision, *hit and *collides are what they were: SET THEM TO 1 BEFORE THE
  *                CALL, and a refusal that goes unnoticed stops the machine. Only jorghipa_read_store then writes a place
- * Nothing is kept between calls; there is no heap, no global, no file: calls may run beside each other. The archive asks the
- * linker for memcpy and memset alone; no libm. CONTRACTS.txt, beside a staged header, has the contracts.
+ * Nothing is kept between calls; the archive has no heap, no global, no file, so that calls may run beside each other. It asks
+ * the linker for memcpy and memset alone; no libm.
  *
  * ---- What is needed, and nothing checks
  * Pointers   valid for their count, aligned, and not null even at count 0. No place that is lent for writing overlaps any other
@@ -40,9 +41,10 @@
  * Machine    x86-64, ELF, the System V calling convention
  * Stack      in bytes, whatever is asked: a root or a builder 200, a point or a sphere 720, a box or a convex body 1,400, a
  *            cylinder, its verdict, a pair or a move 4,300, an assembly 11,600, reading a store 6,900, editing one 29,600.
- *            Nothing calls itself. Where a program binds lazily, its first memset or memcpy takes the dynamic linker's besides
+ *            Nothing calls itself. Where a program binds lazily, its first memset or memcpy takes some 3,000 besides
  * Time       grows as boxes times edges. A box, or a cylinder along the spindle, is one box; a cylinder across is up to `most`,
- *            which is 8,192 where a call takes no settings; a pair measures twice, an assembly each body, a move steps + 1 times.
+ *            which is 8,192 where a call takes no settings; a convex body is one for each of its edges; a pair measures twice, an
+ *            assembly each body, a move steps + 1 times.
  *            The longest walk, 8,192 boxes beside 256 edges, took 160 to 310 ms on a 2-core virtual machine, about 0.1 us a
  *            box and edge; a box beside 256 edges 0.02 ms, a point 0.005 ms. bindings/c/costs.c measures both on yours
  *

@@ -17,9 +17,10 @@
  * distance is safe for a bar that clears, but possibly millimetres low; jorghipa_cylinder of jorghipa.h has settings that avoid
  * it. A bar may lean a little, and is measured as if straight. jorghipa.h says all this in full.
  *
- * ---- What is promised, and proved for every argument
- * A call ends and writes nowhere but into its reply. Nothing is kept between calls; there is no heap, no global, no file: calls
- * may run beside each other. The archive asks the linker for memset alone; no libm.
+ * ---- What is promised
+ * Proved for every argument, NaN and infinities too: a call ends, writes nowhere but into its reply, and that is the one that
+ * CONTRACTS.txt, beside a staged header, defines. Nothing is kept between calls; the archive has no heap, no global, no file, so
+ * that calls may run beside each other. It asks the linker for memset alone; no libm.
  *
  * ---- What is needed, and nothing checks
  * Pointers   valid for their count, aligned, and not null even at count 0
