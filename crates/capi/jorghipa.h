@@ -65,6 +65,9 @@
 extern "C" {
 #endif
 
+/* The version of the linked archive, 10,000 major + 100 minor + patch; JORGHIPA_VERSION_NUMBER is that of this header. */
+uint32_t jorghipa_version(void);
+
 /* The f64 nearest the root of x, ties to even; IEEE 754's squareRoot for every x. */
 double jorghipa_sqrt(double x);
 
@@ -153,6 +156,12 @@ uint32_t jorghipa_verdict_box(const double *section, size_t section_count, doubl
 uint32_t jorghipa_verdict_cylinder(const double *section, size_t section_count, double ax, double ay, double az,
                                    double bx, double by, double bz, double radius, double clearance,
                                    uint32_t *collision);
+
+/* The same verdict on a cylinder, with the counts and the mark of its walk as jorghipa_cylinder gives them: where *cut is 1, the
+ * distance that was judged may be millimetres low, and a collision none. */
+uint32_t jorghipa_verdict_walk(const double *section, size_t section_count, double ax, double ay, double az, double bx,
+                               double by, double bz, double radius, double clearance, uint32_t *collision,
+                               uint32_t *boxes, uint32_t *waiting, uint32_t *cut);
 
 uint32_t jorghipa_verdict_convex(const double *convex, size_t convex_count, const double *section,
                                  size_t section_count, double clearance, uint32_t *collision);
