@@ -1,31 +1,24 @@
 #![doc = include_str!("../README.md")]
+#![warn(missing_docs)]
 
-mod assemblies;
-mod builders;
-mod cylinders;
-mod distances;
-mod lifted;
-mod moves;
-mod pairs;
+pub mod bare;
+mod hits;
 pub mod raw;
 #[cfg(feature = "records")]
-mod records;
+pub mod records;
 mod refusal;
+mod section;
+mod shapes;
 mod stores;
-mod verdicts;
 
-pub use assemblies::*;
-pub use builders::*;
-pub use cylinders::*;
-pub use distances::*;
-pub use lifted::*;
-pub use moves::*;
-pub use pairs::*;
-#[cfg(feature = "records")]
-pub use records::*;
+pub use hits::*;
 pub use refusal::Refusal;
+pub use section::{Section, pair, pair_convex};
+pub use shapes::*;
 pub use stores::*;
-pub use verdicts::*;
+
+/// The version of the library and of this crate.
+pub const VERSION: &str = env!("CARGO_PKG_VERSION");
 
 /// The f64 nearest the root, ties to even.
 pub fn sqrt(x: f64) -> f64 {

@@ -3,7 +3,7 @@
 use crate::answer::Answer;
 use crate::judge;
 use crate::query::{Kind, Query};
-use jorghipa::{Aabb, Cylinder, Point, Refusal, Sphere, raw};
+use jorghipa::{Aabb, Cylinder, Point, Refusal, Sphere, bare, raw};
 use table::Body;
 
 #[derive(Clone, Debug)]
@@ -88,6 +88,6 @@ pub fn answers(assembly: &Assembly) -> [Result<bool, u32>; 2] {
     let bodies: Vec<jorghipa::Body> = assembly.bodies.iter().map(wrapped).collect();
     [
         called(&assembly.section, &kinds, &numbers, assembly.clearance),
-        jorghipa::any_hit(&assembly.section, &bodies, assembly.clearance).map_err(|Refusal(number)| number),
+        bare::any_hit(&assembly.section, &bodies, assembly.clearance).map_err(Refusal::number),
     ]
 }

@@ -3,7 +3,7 @@
 use crate::answer::{self, Answer};
 use crate::judge;
 use crate::query::{Kind, Query, numbers_of};
-use jorghipa::{Aabb, Cylinder, Point, Refusal, Sphere, Travel, raw};
+use jorghipa::{Aabb, Cylinder, Point, Refusal, Sphere, Travel, bare, raw};
 use table::{Body, FINEST, Settings};
 
 #[derive(Clone, Debug)]
@@ -185,9 +185,9 @@ pub fn port(given: &Move) -> Result<Report, u32> {
     let travel = Travel { start: point(given.start), end: point(given.end), steps: given.steps };
     let Settings { tolerance, most, intervals } = given.settings;
     let settings = jorghipa::Settings { tolerance, most, intervals };
-    jorghipa::try_move(&given.section, wrapped(&given.body), given.clearance, travel, settings)
+    bare::try_move(&given.section, wrapped(&given.body), given.clearance, travel, settings)
         .map(|r| Report { distance: r.distance, step: r.step, colliding: r.colliding_step, boxes: r.boxes })
-        .map_err(|Refusal(number)| number)
+        .map_err(Refusal::number)
 }
 
 /// The C function with this kind and these numbers; an error that is 0 tells of a place that a refused call changed, or of a

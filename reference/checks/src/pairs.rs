@@ -7,7 +7,7 @@ use crate::judge;
 use crate::query::{Kind, Query};
 use crate::random::Random;
 use edges::Hit;
-use jorghipa::{Aabb, Body, Cylinder, Nearer, Point, Refusal, Sphere, raw};
+use jorghipa::{Aabb, Body, Cylinder, Point, Sphere, bare, raw};
 
 /// The kinds of bodies that stand beside two sections.
 pub const KINDS: [Kind; 4] = [Kind::Sphere, Kind::Box, Kind::Cylinder, Kind::Convex];
@@ -27,7 +27,7 @@ pub struct Pair {
 pub enum Together {
     Refused(u32),
     Won(bool, Hit, [u32; 3]),
-    /// Something that was lent had changed, or another slice came back.
+    /// Something that was lent had changed.
     Spoilt(String),
 }
 
@@ -149,16 +149,12 @@ fn body(pair: &Pair) -> Body {
 /// The library's answer. A refused call is made once more, on places whose content is known.
 pub fn port(pair: &Pair) -> Together {
     let result = if pair.kind == Kind::Convex {
-        jorghipa::pair_convex(&pair.chuck, &pair.work, &pair.convex)
+        bare::pair_convex(&pair.chuck, &pair.work, &pair.convex)
     } else {
-        jorghipa::pair(&pair.chuck, &pair.work, body(pair))
+        bare::pair(&pair.chuck, &pair.work, body(pair))
     };
     match result {
-        Ok(Nearer { section, work, hit }) => {
-            let lent = if work { &pair.work } else { &pair.chuck };
-            if (section.as_ptr(), section.len()) != (lent.as_ptr(), lent.len()) {
-                return Together::Spoilt("another slice came back".into());
-            }
+        Ok((work, hit)) => {
             let at = Hit {
                 distance: hit.hit.distance,
                 witness: (hit.hit.witness_z, hit.hit.witness_radius),
@@ -166,7 +162,7 @@ pub fn port(pair: &Pair) -> Together {
             };
             Together::Won(work, at, [hit.boxes, hit.waiting, u32::from(hit.cut)])
         }
-        Err(Refusal(number)) => unchanged(pair, number),
+        Err(refusal) => unchanged(pair, refusal.number()),
     }
 }
 

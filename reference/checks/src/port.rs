@@ -5,7 +5,9 @@ use crate::answer::{Answer, floats};
 use crate::judge;
 use crate::lifted::Lifted;
 use crate::query::{Kind, Query};
-use jorghipa::{Aabb, Cylinder, CylinderHit, Hit, LiftedCylinderHit, LiftedHit, Point, Refusal, Settings, Sphere, raw};
+use jorghipa::{
+    Aabb, Cylinder, CylinderHit, Hit, LiftedCylinderHit, LiftedHit, Point, Refusal, Settings, Sphere, bare, raw,
+};
 
 pub fn answer(query: &Query) -> Answer {
     let answer = flat(query);
@@ -26,10 +28,10 @@ fn flat(query: &Query) -> Answer {
         Kind::Box => aabb(query),
         Kind::Convex => convex(query),
         Kind::Section => {
-            built(query, |points, space| Ok(jorghipa::build_section(points, space)?.len()), raw::jorghipa_build_section)
+            built(query, |points, space| Ok(bare::build_section(points, space)?.len()), raw::jorghipa_build_section)
         }
         Kind::Polygon => {
-            built(query, |points, space| Ok(jorghipa::build_polygon(points, space)?.len()), raw::jorghipa_build_polygon)
+            built(query, |points, space| Ok(bare::build_polygon(points, space)?.len()), raw::jorghipa_build_polygon)
         }
         Kind::Cylinder => cylinder(query, Settings::FINEST),
         Kind::VerdictSphere => verdict_sphere(query),
@@ -57,7 +59,8 @@ const COUNTS: [u32; 4] = [76, 77, 78, 79];
 
 /// The answer; of a refused call only if `again`, the C function once more, leaves its places as they were.
 fn told(result: Result<Answer, Refusal>, again: impl FnOnce(&mut [f64; 4], &mut [u32; 4]) -> u32) -> Answer {
-    result.unwrap_or_else(|Refusal(number)| {
+    result.unwrap_or_else(|refusal| {
+        let number = refusal.number();
         let (mut floats, mut counts) = (FLOATS, COUNTS);
         let same = again(&mut floats, &mut counts) == number;
         refused(number, same && floats == FLOATS && counts == COUNTS)
@@ -117,35 +120,35 @@ fn bar(query: &Query) -> Cylinder {
 fn point(query: &Query) -> Answer {
     let ((list, count), [x, y, z]) = (lent(query, 0), query.array());
     // SAFETY (here and below): the lists are valid for their counts, and the places are distinct.
-    told(jorghipa::point(&query.lists[0], place(query)).map(hit), |[d, wz, wr, ..], [edge, ..]| unsafe {
+    told(bare::point(&query.lists[0], place(query)).map(hit), |[d, wz, wr, ..], [edge, ..]| unsafe {
         raw::jorghipa_point(list, count, x, y, z, d, wz, wr, edge)
     })
 }
 
 fn sphere(query: &Query) -> Answer {
     let ((list, count), [x, y, z, radius]) = (lent(query, 0), query.array());
-    told(jorghipa::sphere(&query.lists[0], ball(query)).map(hit), |[d, wz, wr, ..], [edge, ..]| unsafe {
+    told(bare::sphere(&query.lists[0], ball(query)).map(hit), |[d, wz, wr, ..], [edge, ..]| unsafe {
         raw::jorghipa_sphere(list, count, x, y, z, radius, d, wz, wr, edge)
     })
 }
 
 fn aabb(query: &Query) -> Answer {
     let ((list, count), [z0, z1, r0, r1]) = (lent(query, 0), query.array());
-    told(jorghipa::aabb(&query.lists[0], bounds(query)).map(hit), |[d, wz, wr, ..], [edge, ..]| unsafe {
+    told(bare::aabb(&query.lists[0], bounds(query)).map(hit), |[d, wz, wr, ..], [edge, ..]| unsafe {
         raw::jorghipa_box(list, count, z0, z1, r0, r1, d, wz, wr, edge)
     })
 }
 
 fn convex(query: &Query) -> Answer {
     let ((list, count), (section, section_count)) = (lent(query, 0), lent(query, 1));
-    told(jorghipa::convex(&query.lists[0], &query.lists[1]).map(hit), |[d, wz, wr, ..], [edge, ..]| unsafe {
+    told(bare::convex(&query.lists[0], &query.lists[1]).map(hit), |[d, wz, wr, ..], [edge, ..]| unsafe {
         raw::jorghipa_convex(list, count, section, section_count, d, wz, wr, edge)
     })
 }
 
 fn cylinder(query: &Query, settings: Settings) -> Answer {
     let ((list, count), [ax, ay, az, bx, by, bz, radius]) = (lent(query, 0), query.array());
-    let result = jorghipa::cylinder(&query.lists[0], bar(query), settings).map(walked);
+    let result = bare::cylinder(&query.lists[0], bar(query), settings).map(walked);
     let Settings { tolerance, most, intervals } = settings;
     told(result, |[d, wz, wr, ..], [edge, boxes, waiting, cut]| unsafe {
         raw::jorghipa_cylinder(
@@ -157,7 +160,7 @@ fn cylinder(query: &Query, settings: Settings) -> Answer {
 
 fn lifted_point(query: &Query) -> Answer {
     let ((list, count), [x, y, z]) = (lent(query, 0), query.array());
-    let result = jorghipa::lifted_point(&query.lists[0], place(query)).map(lifted);
+    let result = bare::lifted_point(&query.lists[0], place(query)).map(lifted);
     told(result, |[d, wx, wy, wz], [edge, ..]| unsafe {
         raw::jorghipa_lifted_point(list, count, x, y, z, d, wx, wy, wz, edge)
     })
@@ -165,7 +168,7 @@ fn lifted_point(query: &Query) -> Answer {
 
 fn lifted_sphere(query: &Query) -> Answer {
     let ((list, count), [x, y, z, radius]) = (lent(query, 0), query.array());
-    let result = jorghipa::lifted_sphere(&query.lists[0], ball(query)).map(lifted);
+    let result = bare::lifted_sphere(&query.lists[0], ball(query)).map(lifted);
     told(result, |[d, wx, wy, wz], [edge, ..]| unsafe {
         raw::jorghipa_lifted_sphere(list, count, x, y, z, radius, d, wx, wy, wz, edge)
     })
@@ -173,7 +176,7 @@ fn lifted_sphere(query: &Query) -> Answer {
 
 fn lifted_cylinder(query: &Query) -> Answer {
     let ((list, count), [ax, ay, az, bx, by, bz, radius]) = (lent(query, 0), query.array());
-    let result = jorghipa::lifted_cylinder(&query.lists[0], bar(query)).map(lifted_walked);
+    let result = bare::lifted_cylinder(&query.lists[0], bar(query)).map(lifted_walked);
     told(result, |[d, wx, wy, wz], [edge, boxes, waiting, cut]| unsafe {
         raw::jorghipa_lifted_cylinder(
             list, count, ax, ay, az, bx, by, bz, radius, d, wx, wy, wz, edge, boxes, waiting, cut,
@@ -183,7 +186,7 @@ fn lifted_cylinder(query: &Query) -> Answer {
 
 fn verdict_sphere(query: &Query) -> Answer {
     let ((list, count), [x, y, z, radius, clearance]) = (lent(query, 0), query.array());
-    let result = jorghipa::verdict_sphere(&query.lists[0], ball(query), clearance);
+    let result = bare::verdict_sphere(&query.lists[0], ball(query), clearance);
     told(result.map(Answer::Verdict), |_, [collision, ..]| unsafe {
         raw::jorghipa_verdict_sphere(list, count, x, y, z, radius, clearance, collision)
     })
@@ -191,7 +194,7 @@ fn verdict_sphere(query: &Query) -> Answer {
 
 fn verdict_box(query: &Query) -> Answer {
     let ((list, count), [z0, z1, r0, r1, clearance]) = (lent(query, 0), query.array());
-    let result = jorghipa::verdict_box(&query.lists[0], bounds(query), clearance);
+    let result = bare::verdict_box(&query.lists[0], bounds(query), clearance);
     told(result.map(Answer::Verdict), |_, [collision, ..]| unsafe {
         raw::jorghipa_verdict_box(list, count, z0, z1, r0, r1, clearance, collision)
     })
@@ -199,7 +202,7 @@ fn verdict_box(query: &Query) -> Answer {
 
 fn verdict_cylinder(query: &Query) -> Answer {
     let ((list, count), [ax, ay, az, bx, by, bz, radius, clearance]) = (lent(query, 0), query.array());
-    let result = jorghipa::verdict_cylinder(&query.lists[0], bar(query), clearance);
+    let result = bare::verdict_cylinder(&query.lists[0], bar(query), clearance);
     told(result.map(Answer::Verdict), |_, [collision, ..]| unsafe {
         raw::jorghipa_verdict_cylinder(list, count, ax, ay, az, bx, by, bz, radius, clearance, collision)
     })
@@ -207,7 +210,7 @@ fn verdict_cylinder(query: &Query) -> Answer {
 
 fn verdict_convex(query: &Query) -> Answer {
     let ((list, count), (section, section_count), [clearance]) = (lent(query, 0), lent(query, 1), query.array());
-    let result = jorghipa::verdict_convex(&query.lists[0], &query.lists[1], clearance);
+    let result = bare::verdict_convex(&query.lists[0], &query.lists[1], clearance);
     told(result.map(Answer::Verdict), |_, [collision, ..]| unsafe {
         raw::jorghipa_verdict_convex(list, count, section, section_count, clearance, collision)
     })
@@ -221,8 +224,8 @@ fn built(query: &Query, build: fn(&[f64], &mut [f64]) -> Result<usize, Refusal>,
     let (mut space, before) = (judge::space(query), judge::space(query));
     match build(&query.lists[0], &mut space) {
         Ok(kept) => Answer::Built(kept, space),
-        Err(Refusal(number)) => {
-            let ((points, count), mut kept) = (lent(query, 0), 77);
+        Err(refusal) => {
+            let (number, (points, count), mut kept) = (refusal.number(), lent(query, 0), 77);
             let same = unsafe { again(points, count, space.as_mut_ptr(), space.len(), &mut kept) } == number;
             refused(number, same && space == before && kept == 77)
         }
@@ -237,17 +240,17 @@ mod records {
     /// None for a kind that has no such form, and for an odd count of numbers.
     pub fn answer(query: &Query) -> Option<Answer> {
         let call: fn(&[Vertex], &Query) -> Result<Answer, Refusal> = match query.kind {
-            Kind::Point => |section, query| jorghipa::point_of(section, place(query)).map(hit),
-            Kind::Sphere => |section, query| jorghipa::sphere_of(section, ball(query)).map(hit),
-            Kind::Box => |section, query| jorghipa::box_of(section, bounds(query)).map(hit),
-            Kind::Cylinder => |section, query| jorghipa::cylinder_of(section, bar(query)).map(walked),
+            Kind::Point => |section, query| jorghipa::records::point_of(section, place(query)).map(hit),
+            Kind::Sphere => |section, query| jorghipa::records::sphere_of(section, ball(query)).map(hit),
+            Kind::Box => |section, query| jorghipa::records::box_of(section, bounds(query)).map(hit),
+            Kind::Cylinder => |section, query| jorghipa::records::cylinder_of(section, bar(query)).map(walked),
             Kind::Sqrt | Kind::Hypot | Kind::Convex | Kind::Section | Kind::Polygon => return None,
             Kind::VerdictSphere | Kind::VerdictBox | Kind::VerdictCylinder | Kind::VerdictConvex => return None,
             Kind::SetCylinder | Kind::LiftedPoint | Kind::LiftedSphere | Kind::LiftedCylinder => return None,
         };
         let list = query.lists.first().filter(|list| list.len() % 2 == 0)?;
         let section: Vec<Vertex> = list.chunks_exact(2).map(|v| Vertex { z: v[0], radius: v[1] }).collect();
-        Some(call(&section, query).unwrap_or_else(|Refusal(number)| Answer::Refused(number)))
+        Some(call(&section, query).unwrap_or_else(|refusal| Answer::Refused(refusal.number())))
     }
 
     /// Bit by bit, zeros too: both forms run the same code.

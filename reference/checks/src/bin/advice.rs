@@ -3,7 +3,7 @@
 use checks::judge::vertices;
 use checks::random::Random;
 use checks::walk::Band;
-use jorghipa::{Aabb, Cylinder, Point, Settings};
+use jorghipa::{Aabb, Cylinder, Point, Settings, bare};
 use std::time::Instant;
 
 const USAGE: &str = "usage: advice [BARS [SEED]]
@@ -73,7 +73,7 @@ fn dense(section: &[f64], body: [f64; 7]) -> f64 {
     let distance = |i: u32| {
         let z = z0 + (z1 - z0) * (f64::from(i) / f64::from(DENSE));
         let [r0, r1, _] = band.radii(z);
-        jorghipa::aabb(section, Aabb { z0: z, z1: z, r0, r1 }).expect("well formed").distance
+        bare::aabb(section, Aabb { z0: z, z1: z, r0, r1 }).expect("well formed").distance
     };
     (0..=DENSE).map(distance).fold(f64::INFINITY, f64::min)
 }
@@ -100,7 +100,7 @@ fn print_row(cases: &[Case], settings: Settings) {
     let count = cases.len() as f64;
     let start = Instant::now();
     let walks: Vec<_> =
-        cases.iter().map(|case| jorghipa::cylinder(&case.section, case.bar, settings).unwrap()).collect();
+        cases.iter().map(|case| bare::cylinder(&case.section, case.bar, settings).unwrap()).collect();
     let time = start.elapsed().as_secs_f64() / count * 1e6;
     let cut = walks.iter().filter(|walk| walk.cut).count();
     let boxes = walks.iter().map(|walk| f64::from(walk.boxes)).sum::<f64>() / count;

@@ -2,7 +2,7 @@
 
 use checks::judge::vertices;
 use checks::random::Random;
-use jorghipa::{Aabb, Cylinder, Point, Settings, Sphere, Travel};
+use jorghipa::{Aabb, Cylinder, Point, Settings, Sphere, Travel, bare};
 use std::hint::black_box;
 use std::time::{Duration, Instant};
 
@@ -115,15 +115,17 @@ fn queries(least: Duration) {
         let (list, points) = (list.as_slice(), vertices(&list));
         let (libm, exact) = (revolve_libm::probe::solid(&points), revolve_exact::probe::solid(&points));
         let port: [Run; 5] = [
-            over(&bodies, move |b| jorghipa::point(list, Point { x: b.x, y: b.y, z: b.z })),
+            over(&bodies, move |b| bare::point(list, Point { x: b.x, y: b.y, z: b.z })),
             over(&bodies, move |b| {
-                jorghipa::sphere(list, Sphere { center: Point { x: b.x, y: b.y, z: b.z }, radius: b.radius })
+                bare::sphere(list, Sphere { center: Point { x: b.x, y: b.y, z: b.z }, radius: b.radius })
             }),
-            over(&bodies, move |b| jorghipa::aabb(list, Aabb { z0: b.z, z1: b.z + 5.0, r0: b.x, r1: b.x + b.radius })),
-            over(&bodies, move |b| jorghipa::convex(&b.octagon, list)),
+            over(&bodies, move |b| {
+                bare::aabb(list, Aabb { z0: b.z, z1: b.z + 5.0, r0: b.x, r1: b.x + b.radius })
+            }),
+            over(&bodies, move |b| bare::convex(&b.octagon, list)),
             over(&bodies, move |b| {
                 let bounds = Aabb { z0: b.z, z1: b.z + 5.0, r0: b.x, r1: b.x + b.radius };
-                jorghipa::verdict_box(list, bounds, CLEARANCE)
+                bare::verdict_box(list, bounds, CLEARANCE)
             }),
         ];
         let libm = rust!(revolve_libm, &libm, &points, &bodies);
@@ -169,7 +171,7 @@ fn cylinders(least: Duration) {
         for count in [4, 16] {
             let list = section(count);
             let points = vertices(&list);
-            let port = over(&bars, |&c| jorghipa::cylinder(&list, c, settings));
+            let port = over(&bars, |&c| bare::cylinder(&list, c, settings));
             let ways =
                 [rust_cylinder!(revolve_libm, &points, &bars), rust_cylinder!(revolve_exact, &points, &bars), port];
             print_row(Row { name: name.into(), vertices: count, ways }, least);
@@ -201,12 +203,12 @@ fn assemblies(least: Duration) {
                 .collect();
             place.into_iter().for_each(|i: usize| boxes[i] = Aabb { z0: -5.0, z1: 8.0, r0: 4.0, r1: 60.0 });
             let bodies: Vec<jorghipa::Body> = boxes.iter().copied().map(jorghipa::Body::Box).collect();
-            assert_eq!(jorghipa::any_hit(&list, &bodies, CLEARANCE), Ok(place.is_some()));
+            assert_eq!(bare::any_hit(&list, &bodies, CLEARANCE), Ok(place.is_some()));
             let once = [()];
             let ways = [
                 rust_any!(revolve_libm, &points, &boxes, &once),
                 rust_any!(revolve_exact, &points, &boxes, &once),
-                over(&once, |()| jorghipa::any_hit(&list, &bodies, CLEARANCE)),
+                over(&once, |()| bare::any_hit(&list, &bodies, CLEARANCE)),
             ];
             print_row(Row { name: format!("any hit of 64 boxes, {name} colliding"), vertices: count, ways }, least);
         }
@@ -248,8 +250,9 @@ fn moves(least: Duration) {
         let (list, points, once) = (list.as_slice(), vertices(&list), [()]);
         let ball = Sphere { center: Point { x: 60.0, y: 0.0, z: 0.0 }, radius: 2.0 };
         let bodies = [jorghipa::Body::Sphere(ball), jorghipa::Body::Box(Aabb { z0: 0.0, z1: 5.0, r0: 60.0, r1: 70.0 })];
-        let port = bodies
-            .map(|body| over(&once, move |()| jorghipa::try_move(list, body, CLEARANCE, TRAVEL, Settings::FINEST)));
+        let port = bodies.map(|body| {
+            over(&once, move |()| bare::try_move(list, body, CLEARANCE, TRAVEL, Settings::FINEST))
+        });
         let (libm, exact) = (rust_moves!(revolve_libm, &points, &once), rust_moves!(revolve_exact, &points, &once));
         for (((name, libm), exact), port) in ["sphere", "box"].into_iter().zip(libm).zip(exact).zip(port) {
             print_row(

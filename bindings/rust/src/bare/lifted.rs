@@ -1,27 +1,6 @@
 //! The same distances with the witness in the machine's axes.
 
-use crate::{Cylinder, Point, Refusal, Sphere, raw, refusal::accepted};
-
-/// The distance and the edge of a [`crate::Hit`], with its witness in the machine's axes.
-///
-/// With h = hypot(x, y) of the body's middle, a point's or a sphere's own x and y, of a cylinder the means of its ends', and the
-/// hit's z and radius, the witness is (radius x / h, radius y / h, z), multiplied first. Where h is 0 it is (radius, 0, z). A
-/// radius below 0 counts as 0.
-#[derive(Clone, Copy, Debug, PartialEq)]
-pub struct LiftedHit {
-    pub distance: f64,
-    pub witness: Point,
-    pub edge: u32,
-}
-
-/// The same with the counts of a [`crate::CylinderHit`].
-#[derive(Clone, Copy, Debug, PartialEq)]
-pub struct LiftedCylinderHit {
-    pub hit: LiftedHit,
-    pub boxes: u32,
-    pub waiting: u32,
-    pub cut: bool,
-}
+use crate::{Cylinder, LiftedCylinderHit, LiftedHit, Point, Refusal, Sphere, raw, refusal::accepted};
 
 /// Runs a call that fills a lifted hit: distance, witness x, y and z, edge.
 fn lifted(call: impl FnOnce(&mut f64, &mut f64, &mut f64, &mut f64, &mut u32) -> u32) -> Result<LiftedHit, Refusal> {
@@ -32,15 +11,6 @@ fn lifted(call: impl FnOnce(&mut f64, &mut f64, &mut f64, &mut f64, &mut u32) ->
 }
 
 /// Distance of a point, its witness lifted. Refusals 1 to 6.
-///
-/// ```
-/// use jorghipa::{Point, lifted_point};
-///
-/// // Before the end of a bar of radius 10 and length 20.
-/// let section = [0.0, 10.0, 20.0, 10.0, 20.0, 0.0, 0.0, 0.0];
-/// let hit = lifted_point(&section, Point { x: 3.0, y: 4.0, z: 30.0 }).unwrap();
-/// assert_eq!((hit.distance, hit.witness), (10.0, Point { x: 3.0, y: 4.0, z: 20.0 }));
-/// ```
 pub fn lifted_point(section: &[f64], point: Point) -> Result<LiftedHit, Refusal> {
     let (list, count, Point { x, y, z }) = (section.as_ptr(), section.len(), point);
     // SAFETY (here and below): the slice is valid for its length, and the places are distinct.
