@@ -1,7 +1,7 @@
-//! The words that a program is called with. `--help` prints the usage and ends with exit code 0; what the program does not
-//! know ends with exit code 2.
+//! The words that a program is called with, and how it ends. `--help` prints the usage and ends with exit code 0; what the program
+//! does not know ends with exit code 2, a difference with 1.
 
-use std::process::exit;
+use std::process::{ExitCode, exit};
 
 /// The words after the program's name.
 pub fn words(usage: &str) -> Vec<String> {
@@ -29,6 +29,17 @@ pub fn numbers<const N: usize>(words: &[String], defaults: [u64; N]) -> Result<[
         *number = word.parse().map_err(|_| format!("{word} is no whole number"))?;
     }
     Ok(numbers)
+}
+
+/// Says what was found, if something was.
+pub fn ended(done: Result<(), String>) -> ExitCode {
+    match done {
+        Ok(()) => ExitCode::SUCCESS,
+        Err(problem) => {
+            println!("{problem}");
+            ExitCode::FAILURE
+        }
+    }
 }
 
 #[cfg(test)]

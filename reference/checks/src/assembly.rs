@@ -33,7 +33,8 @@ fn single(assembly: &Assembly, body: &Body) -> bool {
     }
 }
 
-fn wrapped(body: &Body) -> jorghipa::Body {
+/// The body as the wrapper takes it.
+pub fn wrapped(body: &Body) -> jorghipa::Body {
     match *body {
         Body::Sphere([x, y, z, radius]) => jorghipa::Body::Sphere(Sphere { center: Point { x, y, z }, radius }),
         Body::Box([z0, z1, r0, r1]) => jorghipa::Body::Box(Aabb { z0, z1, r0, r1 }),

@@ -1,9 +1,10 @@
 //! Request (ix), trying a move: the report expected of single queries and verdicts, one step after the other, and that of the port.
 
 use crate::answer::{self, Answer};
+use crate::assembly::wrapped;
 use crate::judge;
 use crate::query::{Kind, Query, numbers_of};
-use jorghipa::{Aabb, Cylinder, Point, Refusal, Sphere, Travel, bare, raw};
+use jorghipa::{Point, Refusal, Travel, bare, raw};
 use table::{Body, FINEST, Settings};
 
 #[derive(Clone, Debug)]
@@ -166,17 +167,6 @@ pub fn decided(given: &Move, wrong: Wrong) -> Result<Report, u32> {
         report.boxes += if wrong.boxes_of_best { 0 } else { boxes };
     }
     Ok(report)
-}
-
-fn wrapped(body: &Body) -> jorghipa::Body {
-    match *body {
-        Body::Sphere([x, y, z, radius]) => jorghipa::Body::Sphere(Sphere { center: Point { x, y, z }, radius }),
-        Body::Box([z0, z1, r0, r1]) => jorghipa::Body::Box(Aabb { z0, z1, r0, r1 }),
-        Body::Cylinder([ax, ay, az, bx, by, bz, radius]) => {
-            let (a, b) = (Point { x: ax, y: ay, z: az }, Point { x: bx, y: by, z: bz });
-            jorghipa::Body::Cylinder(Cylinder { a, b, radius })
-        }
-    }
 }
 
 /// The library's answer, through the wrapper.

@@ -99,8 +99,7 @@ fn cases(random: &mut Random, make: Make, count: usize) -> Vec<Case> {
 fn print_row(cases: &[Case], settings: Settings) {
     let count = cases.len() as f64;
     let start = Instant::now();
-    let walks: Vec<_> =
-        cases.iter().map(|case| bare::cylinder(&case.section, case.bar, settings).unwrap()).collect();
+    let walks: Vec<_> = cases.iter().map(|case| bare::cylinder(&case.section, case.bar, settings).unwrap()).collect();
     let time = start.elapsed().as_secs_f64() / count * 1e6;
     let cut = walks.iter().filter(|walk| walk.cut).count();
     let boxes = walks.iter().map(|walk| f64::from(walk.boxes)).sum::<f64>() / count;

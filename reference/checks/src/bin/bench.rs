@@ -119,9 +119,7 @@ fn queries(least: Duration) {
             over(&bodies, move |b| {
                 bare::sphere(list, Sphere { center: Point { x: b.x, y: b.y, z: b.z }, radius: b.radius })
             }),
-            over(&bodies, move |b| {
-                bare::aabb(list, Aabb { z0: b.z, z1: b.z + 5.0, r0: b.x, r1: b.x + b.radius })
-            }),
+            over(&bodies, move |b| bare::aabb(list, Aabb { z0: b.z, z1: b.z + 5.0, r0: b.x, r1: b.x + b.radius })),
             over(&bodies, move |b| bare::convex(&b.octagon, list)),
             over(&bodies, move |b| {
                 let bounds = Aabb { z0: b.z, z1: b.z + 5.0, r0: b.x, r1: b.x + b.radius };
@@ -250,9 +248,8 @@ fn moves(least: Duration) {
         let (list, points, once) = (list.as_slice(), vertices(&list), [()]);
         let ball = Sphere { center: Point { x: 60.0, y: 0.0, z: 0.0 }, radius: 2.0 };
         let bodies = [jorghipa::Body::Sphere(ball), jorghipa::Body::Box(Aabb { z0: 0.0, z1: 5.0, r0: 60.0, r1: 70.0 })];
-        let port = bodies.map(|body| {
-            over(&once, move |()| bare::try_move(list, body, CLEARANCE, TRAVEL, Settings::FINEST))
-        });
+        let port =
+            bodies.map(|body| over(&once, move |()| bare::try_move(list, body, CLEARANCE, TRAVEL, Settings::FINEST)));
         let (libm, exact) = (rust_moves!(revolve_libm, &points, &once), rust_moves!(revolve_exact, &points, &once));
         for (((name, libm), exact), port) in ["sphere", "box"].into_iter().zip(libm).zip(exact).zip(port) {
             print_row(

@@ -51,18 +51,11 @@ fn kind(letters: &str) -> Result<Kind, String> {
 
 fn main() -> ExitCode {
     let options = options().unwrap_or_else(|problem| arguments::refuse(&problem, USAGE));
-    let done = match (&options.write, &options.list) {
+    arguments::ended(match (&options.write, &options.list) {
         (Some((list, answers)), _) => checks::fixed::write(options.seed, list, answers),
         (_, Some((list, answers))) => replay(list, answers),
         _ => compare(&options),
-    };
-    match done {
-        Ok(()) => ExitCode::SUCCESS,
-        Err(problem) => {
-            println!("{problem}");
-            ExitCode::FAILURE
-        }
-    }
+    })
 }
 
 fn differs(query: &Query) -> bool {

@@ -175,11 +175,5 @@ fn compare(seed: u64, count: u64) -> Result<(), String> {
 fn main() -> ExitCode {
     let numbers = arguments::numbers(&arguments::words(USAGE), [1, 20_000]);
     let [seed, count] = numbers.unwrap_or_else(|problem| arguments::refuse(&problem, USAGE));
-    match compare(seed, count) {
-        Ok(()) => ExitCode::SUCCESS,
-        Err(problem) => {
-            println!("{problem}");
-            ExitCode::FAILURE
-        }
-    }
+    arguments::ended(compare(seed, count))
 }

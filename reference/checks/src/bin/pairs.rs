@@ -1,6 +1,6 @@
 //! Compares the library's call for chuck and work together with the two single queries of the judge.
 
-use checks::pairs::{self, KINDS};
+use checks::pairs::{self, KINDS, Together};
 use checks::random::Random;
 use std::collections::BTreeMap;
 use std::process::ExitCode;
@@ -9,20 +9,9 @@ const USAGE: &str = "usage: pairs [PAIRS [SEED]]
 Compares PAIRS pairs of each kind of body (100000 unless given), from a seed (1). Exit code 1 at a difference.";
 
 fn main() -> ExitCode {
-    let words = arguments::words(USAGE);
-    let number = |i: usize, unless: u64| {
-        words.get(i).map_or(unless, |word| {
-            word.parse().unwrap_or_else(|_| arguments::refuse(&format!("{word} is no number"), USAGE))
-        })
-    };
-    let (count, seed) = (number(0, 100_000), number(1, 1));
-    match compare(count, seed) {
-        Ok(()) => ExitCode::SUCCESS,
-        Err(problem) => {
-            println!("DIFFERENCE\n{problem}");
-            ExitCode::FAILURE
-        }
-    }
+    let numbers = arguments::numbers(&arguments::words(USAGE), [100_000, 1]);
+    let [count, seed] = numbers.unwrap_or_else(|problem| arguments::refuse(&problem, USAGE));
+    arguments::ended(compare(count, seed).map_err(|problem| format!("DIFFERENCE\n{problem}")))
 }
 
 fn compare(count: u64, seed: u64) -> Result<(), String> {
@@ -37,15 +26,14 @@ fn compare(count: u64, seed: u64) -> Result<(), String> {
             if !port.same(&expected) {
                 return Err(format!("  {pair:?}\n  expected {expected:?}\n  port     {port:?}"));
             }
-            if let pairs::Together::Won(work, hit, counts) = &expected {
+            if let Together::Won(work, _, counts) = &expected {
                 let swapped = pairs::Pair { chuck: pair.work.clone(), work: pair.chuck.clone(), ..pair.clone() };
-                // Exchanged, the same section wins; at a tie the other one, which is then the chuck.
-                match pairs::port(&swapped) {
-                    pairs::Together::Won(other, again, _) if again.distance == hit.distance => {
-                        ties += u64::from(other == *work);
-                    }
-                    told => return Err(format!("  {pair:?}\n  exchanged: {told:?}")),
+                let (expected, told) = (pairs::expected(&swapped), pairs::port(&swapped));
+                if !told.same(&expected) {
+                    return Err(format!("  {swapped:?}, exchanged\n  expected {expected:?}\n  port     {told:?}"));
                 }
+                // Exchanged, the same section wins; at a tie the other one, which is then the chuck.
+                ties += u64::from(matches!(&told, Together::Won(other, ..) if other == work));
                 cut += u64::from(counts[2]);
             }
             *outcomes.entry(expected.outcome()).or_default() += 1;

@@ -95,11 +95,5 @@ fn run(cases: u64, seed: u64) -> Result<(), String> {
 fn main() -> ExitCode {
     let numbers = arguments::numbers(&arguments::words(USAGE), [100_000_000, 1]);
     let [cases, seed] = numbers.unwrap_or_else(|problem| arguments::refuse(&problem, USAGE));
-    match run(cases, seed) {
-        Ok(()) => ExitCode::SUCCESS,
-        Err(problem) => {
-            println!("DIFFERENCE {problem}");
-            ExitCode::FAILURE
-        }
-    }
+    arguments::ended(run(cases, seed).map_err(|problem| format!("DIFFERENCE {problem}")))
 }
