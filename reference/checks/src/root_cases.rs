@@ -147,7 +147,7 @@ mod tests {
         }
         let (a, b) = (a << (m - m.min(n)), b << (n - m.min(n)));
         let root = (a * a + b * b).isqrt();
-        root * root == a * a + b * b && (root >> root.trailing_zeros()) >> 53 == 1
+        root > 0 && root * root == a * a + b * b && (root >> root.trailing_zeros()) >> 53 == 1
     }
 
     #[test]
