@@ -1,8 +1,8 @@
 -- What every cylinder query promises of its answer: demands 1 and 3.
 use Prim.Native.Nat.{zero-le}
-use mathlib.Core.List.{List, []}
+use mathlib.Core.List.{List, [], _++_}
 use mathlib.Core.Path.{_≡_, refl}
-use lib.Dec.{lit≤}
+use lib.Dec.{T, lit≤}
 use lib.Ieee.{Float}
 use Rattle.arith.specs.F64.{_≼_, e-15}
 use Rattle.profile.specs.declared.shapes.CollisionHit.{CollisionHit}
@@ -13,12 +13,14 @@ use Rattle.bands.specs.Band.{axialBox, bandOf, measuredAs}
 use Rattle.walk.specs.Walk.{bandDistance, oneBox, thinBox}
 use Rattle.cylinders.specs.Promised.{Few, Promised}
 use Rattle.cylinders.specs.Steps.{Each, IsF64}
-use Rattle.profile.specs.Refusals.{refusal}
+use Rattle.profile.specs.Refusals.{Test, refusal, axisTests}
+use Rattle.profile.specs.Steps.{numbered}
 use Rattle.settings.specs.Settings.{settingsTests}
 use Rattle.settings.specs.declared.shapes.Settings.{Settings}
+use Rattle.settings.proofs.Taken.{SettingsTaken}
 use Rattle.profile.specs.Replies.{OfValue}
 use Rattle.profile.proofs.Replies.{of-reply}
-use Rattle.cylinders.specs.Cylinders.{cylinderAnswer, cylinderDistance, cylinderNumbers, cylinderTests}
+use Rattle.cylinders.specs.Cylinders.{cylinderAnswer, cylinderDistance, cylinderNumbers, cylinderOwn, cylinderTests}
 use Rattle.bands.specs.declared.shapes.Axis.{Axis}
 use Rattle.bands.specs.declared.shapes.Axis.the-variants.{Axial, AlongX, AlongY, Neither}
 use Rattle.bands.specs.declared.shapes.Cylinder.{Cylinder}
@@ -27,20 +29,21 @@ use Rattle.cylinders.proofs.Cover.Across.{across, walk-covers}
 use Rattle.cylinders.proofs.Demand.Cylinders.{cylinder-bounded}
 
 module _ (s : List Float) (c : Cylinder) (t : Settings) (f : Each IsF64 (cylinderNumbers c)) (g : IsF64 (t .tolerance)) where
-  module _ (e : refusal (cylinderTests s c [] (settingsTests t)) ≡ 0) where
-    -- the counts of a hit: one box, or those of the walk, which covers
+  -- the counts of a hit, whatever else is given: one box, or those of the walk, which covers
+  module _ (extra : List Float) (settings : List Test) (n : T (numbered (settings ++ (axisTests s ++ cylinderOwn (c .radius) (axis c)))))
+      (e : refusal (cylinderTests s c extra settings) ≡ 0) (taken : SettingsTaken t) where
     one : (h : CollisionHit) → Few t (oneBox h)
-    one h = record { some-box = lit≤ tt; boxes = settings-accepted s c t e .some-box; waiting = zero-le }
+    one h = record { some-box = lit≤ tt; boxes = taken .some-box; waiting = zero-le }
 
     walk-few : (a : Axis) → Few t (bandDistance s (bandOf (measuredAs a c)) t)
     unfolding bandDistance
     walk-few a =
         let b = bandOf (measuredAs a c) in
-        let w = walk-covers s c [] (settingsTests t) tt f e t (settings-accepted s c t e) g a in
+        let w = walk-covers s c extra settings n f e t taken g a in
         pick (Few t) (b .radius ≼ e-15) (λ h. one (boxDistance s (thinBox b)))
         (λ h. record { some-box = w .some-box; boxes = w .boxes; waiting = w .room })
 
-    few : Few t (cylinderDistance s c t)
+    pub few : Few t (cylinderDistance s c t)
     unfolding cylinderDistance
     few = by (axis c) refl
       where
@@ -56,6 +59,6 @@ module _ (s : List Float) (c : Cylinder) (t : Settings) (f : Each IsF64 (cylinde
       of-reply (Promised s c t) (refusal (cylinderTests s c [] (settingsTests t))) (cylinderDistance s c t)
       (λ e. record {
         bounded = cylinder-bounded s c t e (settings-accepted s c t e);
-        few = few e;
+        few = few [] (settingsTests t) tt e (settings-accepted s c t e);
         across = across s c [] (settingsTests t) tt f e t (settings-accepted s c t e) g;
       })

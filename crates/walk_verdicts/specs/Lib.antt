@@ -1,0 +1,2 @@
+-- The verdict on a cylinder with what its walk counted.
+pub mod WalkVerdicts
