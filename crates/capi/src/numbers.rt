@@ -1,7 +1,15 @@
-// The square root and the hypotenuse.
+// The version, the square root and the hypotenuse.
 ghost use mathlib.Core.Path.{_≡_};
 ghost use lib.Ieee.{binary64};
 ghost use Rattle.roots.specs.Roots as roots;
+ghost use Rattle.capi.specs.Version.{version};
+
+#[no_mangle]
+pub extern "C" fn jorghipa_version() -> u32
+    ensures { λ r. ⌜ r ≡ version 1 14 0 ⌝ }
+{
+    11400
+}
 
 #[no_mangle]
 pub extern "C" fn jorghipa_sqrt(x: f64) -> f64

@@ -5,7 +5,9 @@ ghost use Rattle.bodies.specs.declared.shapes.Body.the-variants as body·kinds;
 ghost use Rattle.verdicts.specs.Verdicts.{bodyVerdict, convexVerdict};
 ghost use Rattle.profile.specs.Vertices.{ball};
 ghost use Rattle.bands.specs.Band.{bar};
-ghost use Rattle.handing.specs.Interface.{Gives, mark};
+ghost use Rattle.handing.specs.Interface.{Gives, Measures, counts, mark};
+ghost use Rattle.handing.specs.Walks.{judgedPlaces, walkPlaces};
+ghost use Rattle.walk_verdicts.specs.WalkVerdicts.{walkVerdict, FewCounted};
 use arith::Vec3;
 use bands::Cylinder;
 use profile::Aabb;
@@ -75,6 +77,41 @@ pub extern "C" fn jorghipa_verdict_cylinder(
     };
     let verdict = verdicts::verdict_cylinder(section, Cylinder { a, b, radius }, clearance);
     handing::judge(verdict, collision)
+}
+
+#[no_mangle]
+pub extern "C" fn jorghipa_verdict_walk(
+    section: &[f64],
+    ax: f64,
+    ay: f64,
+    az: f64,
+    bx: f64,
+    by: f64,
+    bz: f64,
+    radius: f64,
+    clearance: f64,
+    collision: &mut u32,
+    boxes: &mut u32,
+    waiting: &mut u32,
+    cut: &mut u32,
+) -> u32
+    ensures { λ r. ⌜ Measures FewCounted walkPlaces
+        (walkVerdict (now (section .entry)) (bar (vec ax ay az) (vec bx by bz) radius) clearance) r
+        (judgedPlaces (now (collision .entry)) (counts (now (boxes .entry)) (now (waiting .entry)) (now (cut .entry))))
+        (judgedPlaces (now (collision .exit)) (counts (now (boxes .exit)) (now (waiting .exit)) (now (cut .exit)))) ⌝ }
+{
+    let a = Vec3 {
+        x: ax,
+        y: ay,
+        z: az,
+    };
+    let b = Vec3 {
+        x: bx,
+        y: by,
+        z: bz,
+    };
+    let verdict = walk_verdicts::verdict_walk(section, Cylinder { a, b, radius }, clearance);
+    handing::give_walk(verdict, collision, boxes, waiting, cut)
 }
 
 #[no_mangle]

@@ -3,3 +3,4 @@ pub mod Interface
 pub mod Lifting
 pub mod Pairs
 pub mod Moves
+pub mod Walks

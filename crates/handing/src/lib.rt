@@ -7,6 +7,7 @@ mod lifting;
 mod moving;
 mod pair;
 mod verdict;
+mod walks;
 
 pub use building::give_count;
 pub use cylinder::give_cylinder;
@@ -16,3 +17,4 @@ pub use lifting::give_lifted_cylinder;
 pub use moving::give_report;
 pub use pair::give_pair;
 pub use verdict::judge;
+pub use walks::give_walk;

@@ -41,7 +41,7 @@ unfolding walkVerdict ofBits fits
 few-counted s c clearance f =
     of-reply FewCounted (refusal (cylinderTests s c (clearance ∷ []) [])) (judgedWalk (axis c) c clearance (cylinderDistance s c finest))
     (λ e.
-      let counts : Few finest (cylinderDistance s c finest) =
-          few s c finest f tt (clearance ∷ []) [] tt e (settings-taken finest finest-taken)
-      in
-      record { some-box = counts .some-box; boxes = counts .boxes; waiting = counts .waiting })
+    let counts : Few finest (cylinderDistance s c finest) =
+    few s c finest f tt (clearance ∷ []) [] tt e (settings-taken finest finest-taken)
+    in
+    record { some-box = counts .some-box; boxes = counts .boxes; waiting = counts .waiting })

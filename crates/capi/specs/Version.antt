@@ -1,0 +1,5 @@
+-- The library's version as one number: of 1.14.0 it is 11,400.
+use Prim.Native.Nat.{ℕ, _*_, _+_}
+
+abbrev pub version : ℕ → ℕ → ℕ → ℕ
+version major minor patch = 10000 * major + 100 * minor + patch
