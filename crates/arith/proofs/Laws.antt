@@ -5,6 +5,7 @@ pub mod Monotone
 pub mod Exact
 pub mod Extended
 pub mod Middle
+pub mod Along
 pub mod Depth
 pub mod Bounds
 pub mod Bounded
@@ -24,6 +25,7 @@ pub mod Leg
 pub mod Towards
 pub mod HypotZero
 pub mod HypotReach
+pub mod Gap
 pub mod Share
 pub mod HypotSquares
 pub mod HypotCorner

@@ -1,4 +1,6 @@
--- Laws of the sides of a box, which its functions' proofs use, and of the edge that supplies its witness.
+-- Laws of the sides of a box, of edges that are passed over and of the search for the gap, which its functions' proofs use; and of the
+-- edge that supplies its witness.
 pub mod Nearest
+pub mod Passed
 pub mod Held
 pub mod Edges

@@ -1,15 +1,21 @@
 -- The first smallest, sought on from the best so far: what starts at +infinity and is then held against the best is what starts at the
--- best. By transitivity of the order; a NaN is never taken.
-use Prim.Native.Nat.{ℕ, zero, suc}
-use mathlib.Core.Bool.{Bool, true, false}
-use mathlib.Core.Path.{_≡_, refl, sym, ap, _∙_}
-use lib.Ieee.{binary64, fits}
+-- best; and a search that starts over what it meets anyway finds the same. By transitivity of the order; a NaN is never taken.
+use Prim.Native.Nat.{ℕ, zero, suc, _+_, _<_}
+use mathlib.Core.Bool.{Bool, true, false, cond}
+use mathlib.Core.Path.{_≡_, refl, sym, ap, subst, _∙_}
+use borrow.Author.Tests.{not-true}
+use lib.Dec.{T}
+use lib.Ieee.{Float, binary64, fits}
 use Rattle.arith.specs.F64.{_≺_, ∞}
-use Rattle.arith.proofs.Laws.OrderHeld.{true→T, inf-not-less, lt-trans-held, not-lt-trans-held, number-held}
+use Rattle.arith.proofs.Laws.OrderHeld.{T→true, true→T, inf-not-less, lt-trans-held, not-lt-trans-held, number-held}
 use Rattle.profile.specs.Vertices.{hit, nearer, nearestOf, upto}
 use Rattle.profile.specs.declared.shapes.Witness.{Witness}
 use Rattle.profile.specs.declared.shapes.CollisionHit.{CollisionHit}
+use Rattle.profile.proofs.Fold.{upto-more}
+use Rattle.profile.proofs.Nearest.{every, none-nearer}
 use Rattle.profile.proofs.Numbers.{Held, NumberHit, infinite, nearest-number}
+use Rattle.profile.proofs.Steps.{pick, upto-keeps}
+use Rattle.boxes.specs.Steps.{StartOver, at-none, over}
 
 -- held against the best one by one, or the nearer of the two first
 regrouped : (best b s : CollisionHit) (p q r : Bool) → (s .distance ≺ b .distance) ≡ p → (b .distance ≺ best .distance) ≡ q
@@ -36,3 +42,64 @@ module _ (s : ℕ → CollisionHit) (S : (k : ℕ) → Held (s k)) (w : Witness)
       let b = nearestOf s (hit ∞ w) n in
       ap (λ (h : CollisionHit). nearer h (s n)) (nearest-from best B n)
       ∙ sym (nearer-assoc best b (s n) (true→T B) (nearest-number s (hit ∞ w) n infinite S) (S n))
+
+  -- one of them is below u, and so the smallest is
+  some-below : (u : Float) → T (fits binary64 u) → (k n : ℕ) → k < n → (s k .distance ≺ u) ≡ true
+      → (nearestOf s (hit ∞ w) n .distance ≺ u) ≡ true
+  some-below u U k n l h = go (b .distance ≺ u) refl
+    where
+      b : CollisionHit
+      b = nearestOf s (hit ∞ w) n
+
+      go : (t : Bool) → (b .distance ≺ u) ≡ t → t ≡ true
+      go true e = refl
+      go false e =
+          sym (not-lt-trans-held binary64 (s k .distance) (b .distance) u (S k) (nearest-number s (hit ∞ w) n infinite S) U
+          (not-true _ (T→true _ (none-nearer every s (hit ∞ w) infinite S n k l tt))) e)
+          ∙ h
+
+  pub nearest-over : (best : CollisionHit) → fits binary64 (best .distance) ≡ true → (k n : ℕ) → k < n
+      → (s k .distance ≺ best .distance) ≡ true → nearestOf s best n ≡ nearestOf s (hit ∞ w) n
+  nearest-over best B k n l h = nearest-from best B n ∙ rw (some-below (best .distance) (true→T B) k n l h)
+
+  -- what was met is below u if the nearer of it and nothing is
+  met-below : (e : CollisionHit) (u : Float) → (nearer (hit ∞ w) e .distance ≺ u) ≡ true → (e .distance ≺ u) ≡ true
+  met-below e u h = go (e .distance ≺ ∞) h
+    where
+      go : (t : Bool) → (cond t e (hit ∞ w) .distance ≺ u) ≡ true → (e .distance ≺ u) ≡ true
+      go true h = h
+      go false h = absurd (true→T (sym (inf-not-less u) ∙ h))
+
+  -- what was met, held against the best in place of what it is the nearer of
+  met-again : (best e : CollisionHit) → Held best → Held e → nearer best (nearer (hit ∞ w) e) ≡ nearer best e
+  met-again best e B E =
+      nearer-assoc best (hit ∞ w) e B infinite E
+      ∙ ap (λ (h : CollisionHit). nearer h e) (rw (inf-not-less (best .distance)))
+
+  -- The k-th is met first. The search up to it starts over it, holds what was met against the best, and goes on.
+  module _ (k n : ℕ) (l : k < n) (none first start : CollisionHit) (i : none ≡ hit ∞ w) where
+    start-held : StartOver first none start → Held start
+    start-held (at-none e) = subst Held (sym (e ∙ i)) (number-held binary64 ∞ infinite)
+    start-held (over e B) = true→T B
+
+    held-so-far : Held start → Held (nearestOf s start k)
+    held-so-far H =
+        upto-keeps Held (λ j best. nearer best (s j)) start k H
+        (λ j m b B. pick Held (s j .distance ≺ b .distance) (λ t. S j) (λ t. B))
+
+    same-end : first ≡ nearer (hit ∞ w) (s k) → StartOver first none start → nearestOf s start n ≡ nearestOf s (hit ∞ w) n
+    same-end f (at-none e) = ap (λ (h : CollisionHit). nearestOf s h n) (e ∙ i)
+    same-end f (over e B) =
+        nearest-over start B k n l
+        (met-below (s k) (start .distance) (subst (λ (h : CollisionHit). (h .distance ≺ start .distance) ≡ true) f e))
+
+    pub met-first : {before best r : CollisionHit} → first ≡ nearer none (s k) → StartOver first none start
+        → ((a : CollisionHit) → start ≡ nearestOf s a 0 → before ≡ nearestOf s a k) → best ≡ nearer before first
+        → ((a : CollisionHit) → best ≡ nearestOf s a (k + 1) → r ≡ nearestOf s a n) → r ≡ nearestOf s (hit ∞ w) n
+    unfolding upto
+    met-first f o p q g =
+        let f′ = subst (λ (h : CollisionHit). first ≡ nearer h (s k)) i f in
+        let p′ = p start refl in
+        g start (upto-more (λ j best. nearer best (s j)) start k p′
+        (q ∙ ap (nearer _) f′ ∙ met-again _ (s k) (subst Held (sym p′) (held-so-far (start-held o))) (S k)))
+        ∙ same-end f′ o

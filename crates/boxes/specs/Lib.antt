@@ -1,2 +1,3 @@
 -- 01's box distance.
 pub mod Boxes
+pub mod Steps

@@ -1,61 +1,26 @@
-// Box distance: the gap over all edges, the depth at five probes of the box, and what lies well inside it.
+// Box distance: the gap, the depth at five probes of the box, and what lies well inside it.
 ghost use mathlib.Core.Path.{_≡_};
 ghost use mathlib.Core.Bool.{not, _&&_, cond};
 ghost use lib.Ieee.{neg};
 ghost use Prim.Native.Nat.{_<_, _≤_};
 ghost use Rattle.arith.specs.F64.{_≺_, e-9};
 ghost use Rattle.profile.specs.Vertices as profile;
-ghost use Rattle.profile.specs.Vertices.{count, vertexAt, endAt, edgeAt, any, nearer, nearestOf};
-ghost use Rattle.segments.specs.Segments.{segments};
-ghost use Rattle.boxes.specs.Boxes.{corners, edgeBox, strictlyInsideAabb, middle, segmentThroughInterior};
-ghost use Rattle.boxes.specs.Boxes.{boxGap, boxPenetration, boxWitness, boxHolds, boxDistance};
+ghost use Rattle.profile.specs.Vertices.{count, vertexAt, endAt, any};
+ghost use Rattle.boxes.specs.Boxes.{strictlyInsideAabb, middle, segmentThroughInterior};
+ghost use Rattle.boxes.specs.Boxes.{boxPenetration, boxWitness, boxHolds, boxDistance};
+use super::gap::box_gap;
 use points::deeper_at;
 use points::result_of;
 use profile::Aabb;
 use profile::CollisionHit;
-use profile::Edge;
 use profile::Vertex;
 use profile::Witness;
-use profile::edge_at;
 use profile::end_at;
-use profile::nearer_of;
 use profile::on;
 use profile::vertex_at;
 use segments::INTERIOR;
 use segments::clip_segment;
 use segments::lerp;
-use segments::seg_seg_point_on_first;
-
-// A side of the box may be nearer to the edge.
-fn nearest_side(edge: Edge, x: Aabb, best: CollisionHit) -> CollisionHit
-    ensures { λ r. ⌜ r ≡ nearestOf (λ k. segments edge (vertexAt (corners x) k) (endAt (corners x) k)) best 4 ⌝ }
-{
-    let c00 = Vertex { z: x.z0, r: x.r0 };
-    let c10 = Vertex { z: x.z1, r: x.r0 };
-    let c11 = Vertex { z: x.z1, r: x.r1 };
-    let c01 = Vertex { z: x.z0, r: x.r1 };
-    let first = seg_seg_point_on_first(edge, c00, c10, best);
-    let second = seg_seg_point_on_first(edge, c10, c11, first);
-    let third = seg_seg_point_on_first(edge, c11, c01, second);
-    seg_seg_point_on_first(edge, c01, c00, third)
-}
-
-// The edge may be nearer to the box.
-pub fn segment_aabb_distance(edge: Edge, x: Aabb, best: CollisionHit) -> CollisionHit
-    ensures { λ r. ⌜ r ≡ nearer best (edgeBox x edge) ⌝ }
-{
-    let c = clip_segment(edge.a, edge.b, x);
-    let any = c.any;
-    let t0 = c.t0;
-    if any {
-        let entered = CollisionHit {
-            distance: 0.0,
-            witness: on(edge.number, lerp(edge.a, edge.b, t0)),
-        };
-        return nearer_of(best, entered);
-    }
-    nearest_side(edge, x, best)
-}
 
 pub fn strictly_inside_aabb(v: Vertex, x: Aabb) -> bool
     ensures { λ r. ⌜ r ≡ strictlyInsideAabb x v ⌝ }
@@ -84,31 +49,6 @@ pub fn segment_through_interior(a: Vertex, b: Vertex, x: Aabb) -> bool
         return strictly_inside_aabb(middle_of(lerp(a, b, t0), lerp(a, b, t1)), x);
     }
     false
-}
-
-// Edge k may be nearer to the box.
-fn gap_at(s: &[f64], x: Aabb, k: usize, best: CollisionHit) -> CollisionHit
-    requires { ⌜ k < count (now s) ⌝ }
-    ensures { λ r. ⌜ r ≡ nearer best (edgeBox x (edgeAt (now (s .entry)) k)) ⌝ }
-{
-    segment_aabb_distance(edge_at(s, k), x, best)
-}
-
-fn box_gap(s: &[f64], x: Aabb) -> CollisionHit
-    requires { ⌜ 3 ≤ count (now s) ⌝ }
-    ensures { λ r. ⌜ r ≡ boxGap (now (s .entry)) x ⌝ }
-{
-    let n = s.len() / 2;
-    let mut best = CollisionHit {
-        distance: arith::infinity(),
-        witness: on(0, vertex_at(s, 0)),
-    };
-    let mut k = 0;
-    while k < n {
-        best = gap_at(s, x, k, best);
-        k += 1;
-    }
-    best
 }
 
 fn box_penetration(s: &[f64], x: Aabb, witness: Witness) -> CollisionHit

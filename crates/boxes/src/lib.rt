@@ -1,4 +1,5 @@
 // Box distance to a half-section.
 mod aabb;
+mod gap;
 
 pub use aabb::box_distance;

@@ -52,7 +52,7 @@ module _ (f : Format) where
     leg-over : (y : Float) → T (number f y) → lt (hypot f x y) b ≡ false
     leg-over y Y = over f b x y (held-number f b B (le-left b x e)) (held-number f x X (le-right b x e)) Y e
 
-    leg-not-less : (y : Float) → T (fits f y) → lt (hypot f x y) b ≡ false
+    pub leg-not-less : (y : Float) → T (fits f y) → lt (hypot f x y) b ≡ false
     leg-not-less nan Y = no-number-less f b x
     leg-not-less (inf s) Y = leg-over (inf s) (held-number f (inf s) Y (unfold isNan in tt))
     leg-not-less (fin s m i) Y = leg-over (fin s m i) (held-number f (fin s m i) Y (unfold isNan in tt))

@@ -1,8 +1,8 @@
--- `boxes::aabb::nearest_side` meets its contract.
+-- `boxes::gap::nearest_side` meets its contract.
 use borrow.Author.Needs.{needs}
 use Rattle.profile.specs.Vertices.{upto}
-use Rattle.boxes.proofs.aabb.nearest_side.Statement.{statement}
-use Rattle.boxes.proofs.aabb.nearest_side.Tie as tie
+use Rattle.boxes.proofs.gap.nearest_side.Statement.{statement}
+use Rattle.boxes.proofs.gap.nearest_side.Tie as tie
 
 seg-seg-point-on-first-requires : tie.Need-seg-seg-point-on-first-requires
 seg-seg-point-on-first-requires c κs = search needs

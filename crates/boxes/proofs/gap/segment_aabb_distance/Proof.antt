@@ -1,10 +1,10 @@
--- `boxes::aabb::segment_aabb_distance` meets its contract: the sides are sought from the best on.
+-- `boxes::gap::segment_aabb_distance` meets its contract: the sides are sought from the best on.
 use Rattle.boxes.specs.Boxes.{edgeBox}
 use borrow.Author.Needs.{needs}
 use Rattle.segments.proofs.Held.{segments-held}
 use Rattle.boxes.proofs.Nearest.{nearest-from}
-use Rattle.boxes.proofs.aabb.segment_aabb_distance.Statement.{statement}
-use Rattle.boxes.proofs.aabb.segment_aabb_distance.Tie as tie
+use Rattle.boxes.proofs.gap.segment_aabb_distance.Statement.{statement}
+use Rattle.boxes.proofs.gap.segment_aabb_distance.Tie as tie
 
 clip-segment-requires : tie.Need-clip-segment-requires
 clip-segment-requires c κs = search needs

@@ -1,0 +1,23 @@
+-- `boxes::gap::gap_at` meets its contract.
+use borrow.Author.Needs.{needs}
+use Rattle.boxes.proofs.gap.gap_at.Statement.{statement}
+use Rattle.boxes.proofs.gap.gap_at.Tie as tie
+
+edge-at-requires : tie.Need-edge-at-requires
+edge-at-requires c κs = search needs
+
+passed-over-requires : tie.Need-passed-over-requires
+passed-over-requires c κs = search needs
+
+returns : tie.Need-returns
+returns c = rw (← c .before .before .edge-at .ensures, c .before .passed-over .ensures (c .if1 .taken))
+
+segment-aabb-distance-requires : tie.Need-segment-aabb-distance-requires
+segment-aabb-distance-requires c κs = search needs
+
+returns-2 : tie.Need-returns-2
+returns-2 c = rw (← c .before .before .before .edge-at .ensures, ← c .segment-aabb-distance .ensures)
+
+pub gap-at-spec : {M : Type 1} → statement M
+gap-at-spec =
+    tie.close (tie.spec edge-at-requires passed-over-requires returns segment-aabb-distance-requires returns-2)

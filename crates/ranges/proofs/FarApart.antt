@@ -1,0 +1,165 @@
+-- An edge whose computed points lie as far from those of a segment, along one axis, as the best so far is not nearer. By the ranges that
+-- hold the points, and the law that what a gap reaches a hypot reaches. One range holds the points of a box's four sides.
+use Prim.Native.Nat.{ℕ, _+_, _≤_}
+use native.Mathlib.Nat.{le-of-eq, le-trans}
+use native.Mathlib.Omega.{arith}
+use mathlib.Core.Bool.{Bool, true, false, not, cond, _||_}
+use mathlib.Core.Path.{_≡_, refl, sym}
+use lib.Dec.{T, lit≤}
+use lib.Ieee.{Float, nan, inf, fin, binary64, fits, lt, neg, ofBits}
+use lib.Ieee.Fits.{and-i, add-fits, div-fits, sub-fits}
+use Rattle.roots.specs.Roots.{hypot}
+use Rattle.roots.proofs.Rounding.Key.{finiteNumber, key, magnitude, mid, number, number-of, unit}
+use Rattle.roots.proofs.Rounding.KeyOrder.{nlt→key}
+use Rattle.arith.specs.F64.{_⊕_, _⊖_, _⊗_, _⊘_, _≺_, _≼_, 𝟘, 𝟙, e-18, e-24}
+use Rattle.arith.specs.Num.{abs}
+use Rattle.arith.proofs.Laws.Along.{Share, no-number, share}
+use Rattle.arith.proofs.Laws.Gap.{gap-above, gap-below}
+use Rattle.arith.proofs.Laws.Hypot.{hypot-comm}
+use Rattle.arith.proofs.Laws.OrderHeld.{number-held}
+use Rattle.arith.proofs.Laws.Sizes.{finite-number, one-finite, zero-finite, zero-key, zero-number}
+use Rattle.profile.specs.declared.shapes.Edge.{Edge}
+use Rattle.profile.specs.declared.shapes.Vertex.{Vertex}
+use Rattle.profile.proofs.Steps.{pick}
+use Rattle.segments.specs.Segments.{closestPlaces, dot, minus, places, segments, unitClamp}
+use Rattle.segments.specs.declared.shapes.Places.{Places}
+use Rattle.ranges.specs.Ranges.{farApart, rangeOf, sidesRange}
+use Rattle.ranges.specs.declared.shapes.Range.{Range}
+use Rattle.ranges.proofs.Ranges.{Ended, Holds, held-first, held-second, joined-ended, range-ended, range-holds, range-starts, stays}
+
+-- ---- how far along two segments: from 0 to 1, or a NaN
+one-key : key binary64 𝟙 ≤ mid binary64 + unit binary64
+unfolding mid key magnitude unit ofBits
+one-key = lit≤ tt
+
+neither : (x : Float) → T (fits binary64 x) → T (not (x ≺ 𝟘)) → T (not (𝟙 ≺ x)) → Share binary64 x
+neither nan X h k = no-number refl
+neither (inf true) X h k = absurd (unfold lt ofBits in h)
+neither (inf false) X h k = absurd (unfold lt ofBits in k)
+neither (fin s m i) X h k =
+    let F : T (finiteNumber binary64 (fin s m i)) = and-i (fits binary64 (fin s m i)) true X tt in
+    let N = number-of binary64 (fin s m i) F in
+    share F
+    (le-trans (le-of-eq (sym zero-key)) (nlt→key binary64 (fin s m i) 𝟘 N zero-number h))
+    (le-trans (nlt→key binary64 𝟙 (fin s m i) (finite-number one-finite) N k) one-key)
+
+zero-share : Share binary64 𝟘
+zero-share =
+    share (zero-finite 0 .bounded .sure) (le-of-eq (sym zero-key)) (zero-most (key binary64 𝟘) (mid binary64) (unit binary64) zero-key)
+  where
+    zero-most : (k m u : ℕ) → k ≡ m → k ≤ m + u
+    zero-most k m u e = omega arith
+
+one-share : Share binary64 𝟙
+unfolding mid key magnitude unit ofBits
+one-share = share (one-finite .bounded .sure) (lit≤ tt) one-key
+
+clamped-share : (x : Float) → T (fits binary64 x) → Share binary64 (unitClamp x)
+clamped-share x X =
+    pick (Share binary64) (x ≺ 𝟘) (λ h. zero-share) (λ h. pick (Share binary64) (𝟙 ≺ x) (λ k. one-share) (λ k. neither x X h k))
+
+record Shares (p : Places) : Type 0 where
+  s : Share binary64 (p .s)
+  t : Share binary64 (p .t)
+
+module _ (a b c e f : Float) where
+  quotient : (x y : Float) → Share binary64 (unitClamp (x ⊘ y))
+  quotient x y = clamped-share (x ⊘ y) (div-fits binary64 x y)
+
+  places-shares : Shares (closestPlaces a b c e f)
+  unfolding closestPlaces
+  places-shares =
+      pick Shares (a ≼ e-24)
+      (λ g. pick Shares (e ≼ e-24) (λ h. record { s = zero-share; t = zero-share })
+      (λ h. record { s = zero-share; t = quotient f e }))
+      (λ g. pick Shares (e ≼ e-24) (λ h. first-end)
+      (λ h. pick Shares (t ≺ 𝟘) (λ k. first-end)
+      (λ k. pick Shares (𝟙 ≺ t) (λ l. record { s = quotient (b ⊖ c) a; t = one-share })
+      (λ l. record { s = start; t = neither t (div-fits binary64 (b ⊗ s ⊕ f) e) k l }))))
+    where
+      den : Float
+      den = a ⊗ e ⊖ b ⊗ b
+
+      s : Float
+      s = cond (e-18 ≺ abs den) (unitClamp ((b ⊗ f ⊖ c ⊗ e) ⊘ den)) 𝟘
+
+      t : Float
+      t = (b ⊗ s ⊕ f) ⊘ e
+
+      start : Share binary64 s
+      start = pick (Share binary64) (e-18 ≺ abs den) (λ h. quotient (b ⊗ f ⊖ c ⊗ e) den) (λ h. zero-share)
+
+      first-end : Shares (places (unitClamp (neg c ⊘ a)) 𝟘)
+      first-end = record { s = quotient (neg c) a; t = zero-share }
+
+-- ---- two numbers from ranges far apart, as a leg
+held : (x : Float) → T (number binary64 x) → T (fits binary64 x)
+held = number-held binary64
+
+module _ (least : Float) (B : fits binary64 least ≡ true) (g h : Range) (G : Ended g) (H : Ended h)
+    (x y z : Float) (X : T (fits binary64 x)) (Y : T (fits binary64 y)) (Z : T (fits binary64 z))
+    (P : Holds g x) (Q : Holds h y) where
+  far-not-less : farApart least g h ≡ true → (hypot binary64 (x ⊖ y) z ≺ least) ≡ false
+  unfolding farApart
+  far-not-less e = go (least ≼ g .lo ⊖ h .hi) refl e
+    where
+      go : (t : Bool) → (least ≼ g .lo ⊖ h .hi) ≡ t → (t || (least ≼ h .lo ⊖ g .hi)) ≡ true
+          → (hypot binary64 (x ⊖ y) z ≺ least) ≡ false
+      go true k e =
+          gap-above binary64 least z B Z x y (g .lo) (h .hi) X Y (held (g .lo) (G .low)) (held (h .hi) (H .high)) k (P .low) (Q .high)
+      go false k e =
+          gap-below binary64 least z B Z x y (h .lo) (g .hi) X Y (held (h .lo) (H .low)) (held (g .hi) (G .high)) e (Q .low) (P .high)
+
+-- ---- an edge and a segment: h holds the segment's points along z, or along the radius
+module _ (least : Float) (B : fits binary64 least ≡ true) (e : Edge) (q q′ : Vertex) (h : Range) (H : Ended h) where
+  pub far-along-z : T (fits binary64 (e .a .z)) → ((t : Float) → Share binary64 t → Holds h (q .z ⊕ (q′ .z ⊖ q .z) ⊗ t))
+      → farApart least (rangeOf (e .a .z) (e .b .z)) h ≡ true → (segments e q q′ .distance ≺ least) ≡ false
+  unfolding segments
+  far-along-z P k far =
+      let d = minus (e .b) (e .a) in
+      let d′ = minus q′ q in
+      let r = minus (e .a) q in
+      let at = places-shares (dot d d) (dot d d′) (dot d r) (dot d′ d′) (dot d′ r) in
+      far-not-less least B (rangeOf (e .a .z) (e .b .z)) h (range-ended (e .a .z) (e .b .z) P) H _ _ _
+      (add-fits binary64 _ _) (add-fits binary64 _ _) (sub-fits binary64 _ _)
+      (range-holds (e .a .z) (e .b .z) P _ (at .s)) (k _ (at .t)) far
+
+  pub far-along-r : T (fits binary64 (e .a .r)) → ((t : Float) → Share binary64 t → Holds h (q .r ⊕ (q′ .r ⊖ q .r) ⊗ t))
+      → farApart least (rangeOf (e .a .r) (e .b .r)) h ≡ true → (segments e q q′ .distance ≺ least) ≡ false
+  unfolding segments
+  far-along-r P k far =
+      let d = minus (e .b) (e .a) in
+      let d′ = minus q′ q in
+      let r = minus (e .a) q in
+      let at = places-shares (dot d d) (dot d d′) (dot d r) (dot d′ d′) (dot d′ r) in
+      rw (hypot-comm binary64)
+      (far-not-less least B (rangeOf (e .a .r) (e .b .r)) h (range-ended (e .a .r) (e .b .r) P) H _ _ _
+      (add-fits binary64 _ _) (add-fits binary64 _ _) (sub-fits binary64 _ _)
+      (range-holds (e .a .r) (e .b .r) P _ (at .s)) (k _ (at .t)) far)
+
+-- ---- the four sides of a box: from a to b, at b, from b to a, at a
+module _ (a b : Float) (A : T (fits binary64 a)) (C : T (fits binary64 b)) where
+  pub sides-ended : Ended (sidesRange a b)
+  unfolding sidesRange
+  sides-ended = joined-ended _ _ (range-ended a b A) (range-ended b a C)
+
+  first : (x : Float) → T (fits binary64 x) → Holds (rangeOf a b) x → Holds (sidesRange a b) x
+  unfolding sidesRange
+  first = held-first _ _ (range-ended a b A) (range-ended b a C)
+
+  second : (x : Float) → T (fits binary64 x) → Holds (rangeOf b a) x → Holds (sidesRange a b) x
+  unfolding sidesRange
+  second = held-second _ _ (range-ended a b A) (range-ended b a C)
+
+  module _ (t : Float) (S : Share binary64 t) where
+    pub there : Holds (sidesRange a b) (a ⊕ (b ⊖ a) ⊗ t)
+    there = first _ (add-fits binary64 _ _) (range-holds a b A t S)
+
+    pub up : Holds (sidesRange a b) (b ⊕ (b ⊖ b) ⊗ t)
+    up = stays _ sides-ended b t C S (second b C (range-starts b a C))
+
+    pub back : Holds (sidesRange a b) (b ⊕ (a ⊖ b) ⊗ t)
+    back = second _ (add-fits binary64 _ _) (range-holds b a C t S)
+
+    pub down : Holds (sidesRange a b) (a ⊕ (a ⊖ a) ⊗ t)
+    down = stays _ sides-ended a t A S (first a A (range-starts a b A))

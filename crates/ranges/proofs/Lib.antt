@@ -1,0 +1,4 @@
+-- What ranges hold; an edge far along one axis is not nearer; a side that misses leaves no clip.
+pub mod Ranges
+pub mod FarApart
+pub mod Missed

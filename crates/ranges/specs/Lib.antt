@@ -1,0 +1,2 @@
+-- Where the computed points of edges and sides lie.
+pub mod Ranges

@@ -1,0 +1,45 @@
+-- Where the computed points of a segment lie along one axis, and those of a box's four sides; and when one side of a box alone leaves
+-- nothing of a segment. Only what functions below the entry points promise each other: no answer is defined by it.
+use mathlib.Core.Bool.{Bool, false, cond, _&&_, _||_}
+use lib.Ieee.{Float, neg}
+use Rattle.arith.specs.F64.{_⊕_, _⊖_, _⊘_, _≺_, _≼_, 𝟘, 𝟙, ∞, e-15, e-18}
+use Rattle.arith.specs.Num.{abs, isFinite, max, min}
+use Rattle.profile.specs.declared.shapes.Aabb.{Aabb}
+use Rattle.ranges.specs.declared.shapes.Range.{Range}
+use Rattle.ranges.specs.declared.shapes.Sides.{Sides}
+
+abbrev pub range : Float → Float → Range
+range lo hi = record { lo = lo; hi = hi }
+
+-- from a to a + (b - a), or everything where b - a is not finite
+unfoldable pub rangeOf : Float → Float → Range
+rangeOf a b =
+    let d = b ⊖ a in
+    cond (isFinite d) (cond (d ≺ 𝟘) (range (a ⊕ d) a) (range a (a ⊕ d))) (range (neg ∞) ∞)
+
+unfoldable pub joined : Range → Range → Range
+joined g h = range (min (g .lo) (h .lo)) (max (g .hi) (h .hi))
+
+-- the four sides of a box from a to b: there and back; the other two stay at a and at b
+unfoldable pub sidesRange : Float → Float → Range
+sidesRange a b = joined (rangeOf a b) (rangeOf b a)
+
+abbrev pub sidesOf : Aabb → Sides
+sidesOf x = record { z = sidesRange (x .z0) (x .z1); r = sidesRange (x .r0) (x .r1) }
+
+-- two ranges lie at least this far apart, as rounded
+unfoldable pub farApart : Float → Range → Range → Bool
+farApart least g h = (least ≼ g .lo ⊖ h .hi) || (least ≼ h .lo ⊖ g .hi)
+
+-- one side of a box, p and q as `clipSide` has them, alone leaves nothing of a segment
+unfoldable pub sideMisses : Float → Float → Bool
+sideMisses p q =
+    cond (𝟘 ≼ q) false (cond (abs p ≼ e-18) (q ≺ neg e-15) (cond (p ≺ 𝟘) (𝟙 ≺ q ⊘ p) (q ⊘ p ≺ 𝟘)))
+
+-- one of the two sides across one axis does so: the segment runs from a to b, the box from lo to hi
+unfoldable pub missesAlong : Float → Float → Float → Float → Bool
+missesAlong a b lo hi = sideMisses (neg (b ⊖ a)) (a ⊖ lo) || sideMisses (b ⊖ a) (hi ⊖ a)
+
+-- along this axis the segment lies as far from the box's sides, h, as the best so far, and the clip is none
+unfoldable pub passedAlong : Float → Float → Float → Float → Float → Range → Bool
+passedAlong least a b lo hi h = farApart least (rangeOf a b) h && missesAlong a b lo hi

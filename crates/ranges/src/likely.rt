@@ -1,0 +1,35 @@
+// Which edge is likely the nearest to a box: no answer depends on it.
+ghost use Prim.Native.Nat.{_<_, _≤_};
+ghost use Rattle.profile.specs.Vertices.{count};
+use profile::Aabb;
+use profile::Vertex;
+use profile::end_at;
+use profile::vertex_at;
+
+// How far an edge lies from the box, squared and roughly.
+fn rough_gap(a: Vertex, b: Vertex, x: Aabb) -> f64 {
+    let z = arith::max(arith::min(a.z, b.z) - x.z1, x.z0 - arith::max(a.z, b.z));
+    let r = arith::max(arith::min(a.r, b.r) - x.r1, x.r0 - arith::max(a.r, b.r));
+    let dz = arith::max(z, 0.0);
+    let dr = arith::max(r, 0.0);
+    dz * dz + dr * dr
+}
+
+pub fn likely_edge(s: &[f64], x: Aabb) -> usize
+    requires { ⌜ 3 ≤ count (now s) ⌝ }
+    ensures { λ r. ⌜ r < count (now (s .entry)) ⌝ }
+{
+    let n = s.len() / 2;
+    let mut least = arith::infinity();
+    let mut near = 0;
+    let mut k = 0;
+    while k < n {
+        let d = rough_gap(vertex_at(s, k), end_at(s, k), x);
+        if d < least {
+            least = d;
+            near = k;
+        }
+        k += 1;
+    }
+    near
+}
