@@ -3,4 +3,5 @@
 pub mod Nearest
 pub mod Passed
 pub mod Held
+pub mod Unread
 pub mod Edges

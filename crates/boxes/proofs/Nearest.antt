@@ -34,14 +34,23 @@ module _ (best b s : CollisionHit) (B : Held best) (N : NumberHit b) (S : Held s
       (λ p q. not-lt-trans-held binary64 (s .distance) (b .distance) (best .distance) S N B p q)
 
 module _ (s : ℕ → CollisionHit) (S : (k : ℕ) → Held (s k)) (w : Witness) where
+  -- held against the best before or after
+  pub nearest-shift : (best b : CollisionHit) → Held best → NumberHit b → (n : ℕ)
+      → nearestOf s (nearer best b) n ≡ nearer best (nearestOf s b n)
+  unfolding upto
+  nearest-shift best b B N zero = refl
+  nearest-shift best b B N (suc n) =
+      ap (λ (h : CollisionHit). nearer h (s n)) (nearest-shift best b B N n)
+      ∙ sym (nearer-assoc best (nearestOf s b n) (s n) B (nearest-number s b n N S) (S n))
+
+  nothing-nearer : (best : CollisionHit) → nearer best (hit ∞ w) ≡ best
+  nothing-nearer best = rw (inf-not-less (best .distance))
+
   pub nearest-from : (best : CollisionHit) → fits binary64 (best .distance) ≡ true → (n : ℕ)
       → nearestOf s best n ≡ nearer best (nearestOf s (hit ∞ w) n)
-  unfolding upto
-  nearest-from best B zero = rw (inf-not-less (best .distance))
-  nearest-from best B (suc n) =
-      let b = nearestOf s (hit ∞ w) n in
-      ap (λ (h : CollisionHit). nearer h (s n)) (nearest-from best B n)
-      ∙ sym (nearer-assoc best b (s n) (true→T B) (nearest-number s (hit ∞ w) n infinite S) (S n))
+  nearest-from best B n =
+      ap (λ (h : CollisionHit). nearestOf s h n) (sym (nothing-nearer best))
+      ∙ nearest-shift best (hit ∞ w) (true→T B) infinite n
 
   -- one of them is below u, and so the smallest is
   some-below : (u : Float) → T (fits binary64 u) → (k n : ℕ) → k < n → (s k .distance ≺ u) ≡ true
@@ -74,7 +83,7 @@ module _ (s : ℕ → CollisionHit) (S : (k : ℕ) → Held (s k)) (w : Witness)
   met-again : (best e : CollisionHit) → Held best → Held e → nearer best (nearer (hit ∞ w) e) ≡ nearer best e
   met-again best e B E =
       nearer-assoc best (hit ∞ w) e B infinite E
-      ∙ ap (λ (h : CollisionHit). nearer h e) (rw (inf-not-less (best .distance)))
+      ∙ ap (λ (h : CollisionHit). nearer h e) (nothing-nearer best)
 
   -- The k-th is met first. The search up to it starts over it, holds what was met against the best, and goes on.
   module _ (k n : ℕ) (l : k < n) (none first start : CollisionHit) (i : none ≡ hit ∞ w) where

@@ -1,13 +1,12 @@
 // Box distance: the gap, the depth at five probes of the box, and what lies well inside it.
 ghost use mathlib.Core.Path.{_≡_};
-ghost use mathlib.Core.Bool.{not, _&&_, cond};
-ghost use lib.Ieee.{neg};
+ghost use mathlib.Core.Bool.{cond};
 ghost use Prim.Native.Nat.{_<_, _≤_};
-ghost use Rattle.arith.specs.F64.{_≺_, e-9};
 ghost use Rattle.profile.specs.Vertices as profile;
 ghost use Rattle.profile.specs.Vertices.{count, vertexAt, endAt, any};
 ghost use Rattle.boxes.specs.Boxes.{strictlyInsideAabb, middle, segmentThroughInterior};
-ghost use Rattle.boxes.specs.Boxes.{boxPenetration, boxWitness, boxHolds, boxDistance};
+ghost use Rattle.boxes.specs.Boxes.{boxGap, boxPenetration, boxWitness, boxDistance};
+ghost use Rattle.boxes.specs.Steps.{anyThrough, boxApart};
 use super::gap::box_gap;
 use points::deeper_at;
 use points::result_of;
@@ -16,6 +15,7 @@ use profile::CollisionHit;
 use profile::Vertex;
 use profile::Witness;
 use profile::end_at;
+use profile::nearer_of;
 use profile::on;
 use profile::vertex_at;
 use segments::INTERIOR;
@@ -125,7 +125,7 @@ fn edge_through(s: &[f64], x: Aabb, k: usize) -> bool
 }
 
 fn any_edge_through(s: &[f64], x: Aabb) -> bool
-    ensures { λ r. ⌜ r ≡ any (λ k. segmentThroughInterior x (vertexAt (now (s .entry)) k) (endAt (now (s .entry)) k)) (count (now (s .entry))) ⌝ }
+    ensures { λ r. ⌜ r ≡ anyThrough (now (s .entry)) x ⌝ }
 {
     let n = s.len() / 2;
     let mut k = 0;
@@ -138,30 +138,52 @@ fn any_edge_through(s: &[f64], x: Aabb) -> bool
     false
 }
 
-// The search runs only where the penetration does not decide.
-fn box_overlaps(s: &[f64], x: Aabb, penetration: f64) -> bool
-    ensures { λ r. ⌜ r ≡ (not (penetration ≺ neg e-9) && boxHolds (now (s .entry)) x) ⌝ }
+// Where the gap is above 0 no edge is clipped.
+fn runs_through(s: &[f64], x: Aabb, gap: f64) -> bool
+    requires { ⌜ gap ≡ boxGap (now s) x .distance ⌝ }
+    ensures { λ r. ⌜ r ≡ anyThrough (now (s .entry)) x ⌝ }
 {
-    if penetration < -INTERIOR {
+    if gap > 0.0 {
         return false;
-    }
-    if any_vertex_inside(s, x) {
-        return true;
     }
     any_edge_through(s, x)
 }
 
+// No vertex lies well inside, and no probe is deep: the gap tells, or an edge that runs through.
+fn box_apart(s: &[f64], x: Aabb, deep: CollisionHit) -> CollisionHit
+    requires { ⌜ 3 ≤ count (now s) ⌝ }
+    ensures { λ r. ⌜ r ≡ boxApart (now (s .entry)) x deep ⌝ }
+{
+    let gap = box_gap(s, x);
+    let gap_witness = gap.witness;
+    let beside = CollisionHit {
+        distance: 0.0,
+        witness: gap_witness,
+    };
+    let found = nearer_of(beside, deep);
+    let found_witness = found.witness;
+    let through = runs_through(s, x, gap.distance);
+    CollisionHit {
+        distance: result_of(found.distance, through, gap.distance),
+        witness: found_witness,
+    }
+}
+
+// With a vertex well inside, or a probe deeper than 1e-9, the gap is not read.
 pub fn box_distance(s: &[f64], x: Aabb) -> CollisionHit
     requires { ⌜ 3 ≤ count (now s) ⌝ }
     ensures { λ r. ⌜ r ≡ boxDistance (now (s .entry)) x ⌝ }
 {
-    let gap = box_gap(s, x);
-    let gap_witness = gap.witness;
-    let deep = box_penetration(s, x, gap_witness);
-    let deep_witness = deep.witness;
-    let overlaps = box_overlaps(s, x, deep.distance);
-    CollisionHit {
-        distance: result_of(deep.distance, overlaps, gap.distance),
-        witness: box_witness(s, x, deep_witness),
+    let start = on(0, vertex_at(s, 0));
+    let deep = box_penetration(s, x, start);
+    if any_vertex_inside(s, x) {
+        return CollisionHit {
+            distance: result_of(deep.distance, true, 0.0),
+            witness: box_witness(s, x, start),
+        };
     }
+    if deep.distance < -INTERIOR {
+        return deep;
+    }
+    box_apart(s, x, deep)
 }

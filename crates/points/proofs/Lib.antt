@@ -1,4 +1,5 @@
--- Laws that the functions' proofs use, and of the edge that supplies a witness.
+-- Laws that the functions' proofs use, of distances as numbers, and of the edge that supplies a witness.
+pub mod Numbers
 pub mod Asked
 pub mod Edges
 pub mod Outside

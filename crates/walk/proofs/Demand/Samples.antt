@@ -17,7 +17,7 @@ use Rattle.profile.proofs.Steps.{upto-keeps}
 use Rattle.section.proofs.Demand.Bounds.{finite-atMost}
 use Rattle.section.proofs.Demand.Hits.{BestAtMost, VertexAtMost, VerticesAtMost, nearer-best, none-yet}
 use Rattle.section.proofs.Demand.Points.{point-best}
-use Rattle.section.proofs.Numbers.{point-number}
+use Rattle.points.proofs.Numbers.{point-number}
 use Rattle.bands.specs.Band.{halfWidth, spanAt}
 use Rattle.bands.specs.declared.shapes.RadialBand.{RadialBand}
 use Rattle.bands.proofs.HalfWidth.{halfWidth-finite}

@@ -1,18 +1,25 @@
--- `boxes::aabb::box_distance` meets its contract.
-use Rattle.boxes.specs.Boxes.{boxDistance}
+-- `boxes::aabb::box_distance` meets its contract: what is not read changes nothing.
+use mathlib.Core.Bool.{true}
+use mathlib.Core.Path.{_≡_, subst, sym, _∙_}
+use lib.Ieee.{neg}
 use borrow.Author.Needs.{needs}
-use Rattle.points.proofs.Asked.{result-asked}
+use Rattle.arith.specs.F64.{_≺_, e-9}
+use Rattle.profile.specs.declared.shapes.CollisionHit.{CollisionHit}
+use Rattle.boxes.proofs.Unread.{box-apart, box-deep, box-within}
 use Rattle.boxes.proofs.aabb.box_distance.Statement.{statement}
 use Rattle.boxes.proofs.aabb.box_distance.Tie as tie
 
-box-gap-requires : tie.Need-box-gap-requires
-box-gap-requires c κs = search needs
+vertex-at-requires : tie.Need-vertex-at-requires
+vertex-at-requires c κs = search needs
+
+on-requires : tie.Need-on-requires
+on-requires c κs = search needs
 
 box-penetration-requires : tie.Need-box-penetration-requires
 box-penetration-requires c κs = search needs
 
-box-overlaps-requires : tie.Need-box-overlaps-requires
-box-overlaps-requires c κs = search needs
+any-vertex-inside-requires : tie.Need-any-vertex-inside-requires
+any-vertex-inside-requires c κs = search needs
 
 result-of-requires : tie.Need-result-of-requires
 result-of-requires c κs = search needs
@@ -21,24 +28,36 @@ box-witness-requires : tie.Need-box-witness-requires
 box-witness-requires c κs = search needs
 
 returns : tie.Need-returns
-unfolding boxDistance
 returns c =
-    rw (
-      c .before .result-of .ensures,
-      c .before .before .box-overlaps .ensures,
-      result-asked,
-      c .box-witness .ensures,
-      c .before .before .before .before .box-penetration .ensures,
-      c .before .before .before .before .before .before .box-gap .ensures,
-    )
+    rw (c .before .result-of .ensures, c .box-witness .ensures, c .before .before .before .before .box-penetration .ensures)
+    (box-within _ _ _ _ (sym (c .before .before .before .any-vertex-inside .ensures) ∙ c .before .before .if1 .taken))
+
+returns-2 : tie.Need-returns-2
+returns-2 c =
+    let p = c .before .before .before .before .box-penetration .ensures in
+    p ∙ box-deep _ _ _ (sym (c .before .before .before .any-vertex-inside .ensures) ∙ c .before .before .if1 .left)
+    (subst (λ (h : CollisionHit). (h .distance ≺ neg e-9) ≡ true) p (c .if2 .taken))
+
+box-apart-requires : tie.Need-box-apart-requires
+box-apart-requires c κs = search needs
+
+returns-3 : tie.Need-returns-3
+returns-3 c =
+    c .box-apart .ensures
+    ∙ box-apart _ _ _ (c .before .before .before .before .before .box-penetration .ensures)
+    (sym (c .before .before .before .before .any-vertex-inside .ensures) ∙ c .before .before .before .if1 .left)
 
 pub box-distance-spec : {M : Type 1} → statement M
 box-distance-spec =
     tie.close
     (tie.spec
-    box-gap-requires
+    vertex-at-requires
+    on-requires
     box-penetration-requires
-    box-overlaps-requires
+    any-vertex-inside-requires
     result-of-requires
     box-witness-requires
-    returns)
+    returns
+    returns-2
+    box-apart-requires
+    returns-3)
