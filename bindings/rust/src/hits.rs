@@ -46,6 +46,19 @@ pub struct CylinderHit {
     pub cut: bool,
 }
 
+/// The verdict on a cylinder, with the counts of its [`CylinderHit`] at the finest settings.
+#[derive(Clone, Copy, Debug, PartialEq, Eq)]
+pub struct JudgedWalk {
+    /// Whether it comes closer than the clearance.
+    pub collision: bool,
+    /// The boxes that were measured.
+    pub boxes: u32,
+    /// The most pieces that waited at any one time.
+    pub waiting: u32,
+    /// Whether a piece was still due: then the distance that was judged may be low.
+    pub cut: bool,
+}
+
 /// The distance and the edge of a [`Hit`], with its witness in the machine's axes.
 ///
 /// With h = hypot(x, y) of the body's middle, a point's or a sphere's own x and y, of a cylinder the means of its ends', and the

@@ -17,8 +17,14 @@ pub use section::{Section, pair, pair_convex};
 pub use shapes::*;
 pub use stores::*;
 
-/// The version of the library and of this crate.
+/// The version of this crate, and of the library that it was written for.
 pub const VERSION: &str = env!("CARGO_PKG_VERSION");
+
+/// The version of the linked archive: 10,000 major + 100 minor + patch.
+pub fn version() -> u32 {
+    // SAFETY: no pointer is handed over.
+    unsafe { raw::jorghipa_version() }
+}
 
 /// The f64 nearest the root, ties to even.
 pub fn sqrt(x: f64) -> f64 {

@@ -53,6 +53,8 @@ unsafe extern "C" {
         distance: *mut f64, witness_x: *mut f64, witness_y: *mut f64, witness_z: *mut f64, edge: *mut u32,
         boxes: *mut u32, waiting: *mut u32, cut: *mut u32,
     ) -> u32;
+    /// The version as one number.
+    pub fn jorghipa_version() -> u32;
     /// Verdict on a sphere.
     pub fn jorghipa_verdict_sphere(
         section: *const f64, section_count: usize, x: f64, y: f64, z: f64, radius: f64, clearance: f64,
@@ -67,6 +69,11 @@ unsafe extern "C" {
     pub fn jorghipa_verdict_cylinder(
         section: *const f64, section_count: usize, ax: f64, ay: f64, az: f64, bx: f64, by: f64, bz: f64, radius: f64,
         clearance: f64, collision: *mut u32,
+    ) -> u32;
+    /// The same, with the counts and the mark of its walk.
+    pub fn jorghipa_verdict_walk(
+        section: *const f64, section_count: usize, ax: f64, ay: f64, az: f64, bx: f64, by: f64, bz: f64, radius: f64,
+        clearance: f64, collision: *mut u32, boxes: *mut u32, waiting: *mut u32, cut: *mut u32,
     ) -> u32;
     /// Verdict on a convex polygon.
     pub fn jorghipa_verdict_convex(

@@ -2,8 +2,8 @@
 
 use crate::shapes::flat;
 use crate::{
-    Aabb, Body, Cylinder, CylinderHit, Hit, LiftedCylinderHit, LiftedHit, Nearer, Point, Refusal, Report, Settings,
-    Sphere, Travel, Vertex, bare,
+    Aabb, Body, Cylinder, CylinderHit, Hit, JudgedWalk, LiftedCylinderHit, LiftedHit, Nearer, Point, Refusal, Report,
+    Settings, Sphere, Travel, Vertex, bare,
 };
 
 /// A turned half-section of 3 to 256 vertices, accepted by the library and since then unchanged; the last vertex joins the first.
@@ -142,6 +142,11 @@ impl Section {
     /// its ends stand apart across its axis. Refusals 4, 5, 9 and 11.
     pub fn verdict_cylinder(&self, cylinder: Cylinder, clearance: f64) -> Result<bool, Refusal> {
         bare::verdict_cylinder(self.numbers(), cylinder, clearance)
+    }
+
+    /// The same, with what its walk counted, and whether it was cut. Refusals 4, 5, 9 and 11.
+    pub fn verdict_walk(&self, cylinder: Cylinder, clearance: f64) -> Result<JudgedWalk, Refusal> {
+        bare::verdict_walk(self.numbers(), cylinder, clearance)
     }
 
     /// Whether a convex polygon comes closer than the clearance. Refusals 2 to 5.

@@ -5,7 +5,8 @@ mod common;
 use common::*;
 use jorghipa::bare::*;
 use jorghipa::{
-    Body, CylinderHit, Hit, LiftedCylinderHit, LiftedHit, Refusal, Report, Settings, Sphere, Travel, hypot, sqrt,
+    Body, CylinderHit, Hit, LiftedCylinderHit, LiftedHit, Refusal, Report, Settings, Sphere, Travel, VERSION, hypot,
+    sqrt, version,
 };
 
 fn hit(distance: f64, witness_z: f64, witness_radius: f64, edge: u32) -> Hit {
@@ -171,6 +172,12 @@ fn moves() {
     let short = Body::Cylinder(bar(origin, at(1.513e-10, 0.0, 1.08e-6), 1.0));
     assert!(try_move(&S, short, 1.0, still(1), finest).is_ok());
     assert_eq!(try_move(&S, short, 1.0, travel(origin, at(5e5, 0.0, 0.0), 1), finest), Err(Refusal::from(11)));
+}
+
+#[test]
+fn the_version_is_the_crates() {
+    let parts: Vec<u32> = VERSION.split('.').map(|part| part.parse().unwrap()).collect();
+    assert_eq!(version(), 10_000 * parts[0] + 100 * parts[1] + parts[2]);
 }
 
 #[test]

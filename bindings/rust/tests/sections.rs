@@ -64,6 +64,9 @@ fn queries() {
         assert_eq!(section.cylinder(across, coarse), bare::cylinder(numbers, across, coarse));
         assert_eq!(section.lifted_cylinder(across), bare::lifted_cylinder(numbers, across));
         assert_eq!(section.verdict_cylinder(across, 2.5), Ok(true));
+        let walk = section.cylinder(across, Settings::FINEST).unwrap();
+        let judged = JudgedWalk { collision: true, boxes: walk.boxes, waiting: walk.waiting, cut: walk.cut };
+        assert_eq!(section.verdict_walk(across, 2.5), Ok(judged));
         let travel = Travel { start: at(0.0, 0.0, 0.0), end: at(10.0, 0.0, 0.0), steps: 4 };
         assert_eq!(
             section.try_move(across.into(), 2.5, travel, coarse),

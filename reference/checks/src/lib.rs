@@ -17,6 +17,7 @@ pub mod query;
 pub mod root_cases;
 pub mod shrink;
 pub mod symmetry;
+pub mod timing;
 pub mod walk;
 
 pub use random;

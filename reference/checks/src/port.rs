@@ -6,7 +6,8 @@ use crate::judge;
 use crate::lifted::Lifted;
 use crate::query::{Kind, Query};
 use jorghipa::{
-    Aabb, Cylinder, CylinderHit, Hit, LiftedCylinderHit, LiftedHit, Point, Refusal, Settings, Sphere, bare, raw,
+    Aabb, Cylinder, CylinderHit, Hit, JudgedWalk, LiftedCylinderHit, LiftedHit, Point, Refusal, Settings, Sphere, bare,
+    raw,
 };
 
 pub fn answer(query: &Query) -> Answer {
@@ -203,9 +204,21 @@ fn verdict_box(query: &Query) -> Answer {
 fn verdict_cylinder(query: &Query) -> Answer {
     let ((list, count), [ax, ay, az, bx, by, bz, radius, clearance]) = (lent(query, 0), query.array());
     let result = bare::verdict_cylinder(&query.lists[0], bar(query), clearance);
+    assert_eq!(
+        bare::verdict_walk(&query.lists[0], bar(query), clearance),
+        counted(query, result),
+        "the walk's verdict"
+    );
     told(result.map(Answer::Verdict), |_, [collision, ..]| unsafe {
         raw::jorghipa_verdict_cylinder(list, count, ax, ay, az, bx, by, bz, radius, clearance, collision)
     })
+}
+
+/// A verdict with the counts of the query at the finest settings.
+fn counted(query: &Query, verdict: Result<bool, Refusal>) -> Result<JudgedWalk, Refusal> {
+    let collision = verdict?;
+    let CylinderHit { boxes, waiting, cut, .. } = bare::cylinder(&query.lists[0], bar(query), Settings::FINEST)?;
+    Ok(JudgedWalk { collision, boxes, waiting, cut })
 }
 
 fn verdict_convex(query: &Query) -> Answer {

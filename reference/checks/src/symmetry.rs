@@ -71,7 +71,7 @@ fn zeros(random: &mut Random, numbers: &mut [f64; 7]) {
 }
 
 pub fn asked(case: &Case, cylinder: Cylinder) -> Result<CylinderHit, Refusal> {
-    jorghipa::cylinder(&case.section, cylinder, case.settings)
+    jorghipa::bare::cylinder(&case.section, cylinder, case.settings)
 }
 
 /// One value by its bits; of two zeros the sign may differ, if that is allowed.
@@ -82,7 +82,7 @@ fn same_float(a: f64, b: f64, zeros: bool) -> bool {
 /// Two answers: the same number, or distance, witness, edge, counts and mark.
 pub fn same(a: &Result<CylinderHit, Refusal>, b: &Result<CylinderHit, Refusal>, zeros: bool) -> bool {
     match (a, b) {
-        (Err(Refusal(a)), Err(Refusal(b))) => a == b,
+        (Err(a), Err(b)) => a == b,
         (Ok(a), Ok(b)) => {
             let (h, k) = (a.hit, b.hit);
             same_float(h.distance, k.distance, zeros)

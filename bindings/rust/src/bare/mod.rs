@@ -28,4 +28,4 @@ pub use distances::{aabb, convex, point, sphere};
 pub use lifted::{lifted_cylinder, lifted_point, lifted_sphere};
 pub use moves::try_move;
 pub use pairs::{pair, pair_convex};
-pub use verdicts::{verdict_box, verdict_convex, verdict_cylinder, verdict_sphere};
+pub use verdicts::{verdict_box, verdict_convex, verdict_cylinder, verdict_sphere, verdict_walk};

@@ -1,6 +1,6 @@
 //! Whether a body comes closer to the section than a clearance: whether distance + 1e-9 < clearance.
 
-use crate::{Aabb, Cylinder, Point, Refusal, Sphere, raw, refusal::accepted};
+use crate::{Aabb, Cylinder, JudgedWalk, Point, Refusal, Sphere, raw, refusal::accepted};
 
 /// Runs a call that gives a verdict: true is a collision.
 fn verdict(call: impl FnOnce(&mut u32) -> u32) -> Result<bool, Refusal> {
@@ -34,6 +34,20 @@ pub fn verdict_cylinder(section: &[f64], cylinder: Cylinder, clearance: f64) -> 
     verdict(|collision| unsafe {
         raw::jorghipa_verdict_cylinder(list, count, a.x, a.y, a.z, b.x, b.y, b.z, radius, clearance, collision)
     })
+}
+
+/// The same, with the boxes that were measured, the most pieces that waited, and whether the walk was cut.
+pub fn verdict_walk(section: &[f64], cylinder: Cylinder, clearance: f64) -> Result<JudgedWalk, Refusal> {
+    let Cylinder { a, b, radius } = cylinder;
+    let (list, count, (mut boxes, mut waiting, mut cut)) = (section.as_ptr(), section.len(), (0, 0, 0));
+    let counts = (&mut boxes, &mut waiting, &mut cut);
+    // SAFETY: as above, and the places are distinct.
+    let collision = verdict(|collision| unsafe {
+        raw::jorghipa_verdict_walk(
+            list, count, a.x, a.y, a.z, b.x, b.y, b.z, radius, clearance, collision, counts.0, counts.1, counts.2,
+        )
+    })?;
+    Ok(JudgedWalk { collision, boxes, waiting, cut: cut != 0 })
 }
 
 /// Whether a convex polygon comes closer than the clearance. Refusals 1 to 5, and 6 of the section.

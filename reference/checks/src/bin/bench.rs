@@ -2,51 +2,15 @@
 
 use checks::judge::vertices;
 use checks::random::Random;
+use checks::timing::{Row, Run, Table, over};
 use jorghipa::{Aabb, Cylinder, Point, Settings, Sphere, Travel, bare};
-use std::hint::black_box;
-use std::time::{Duration, Instant};
 
 const USAGE: &str = "usage: bench [MILLISECONDS]
 Times the Rust with libm's hypot, the Rust with the exact one, and the port, and prints medians as a markdown table.
-MILLISECONDS (20 unless given) is the length of a sample.";
+MILLISECONDS (20 unless given) is the length of a sample. The last line is the worst row.";
 
-const SAMPLES: usize = 15;
 const BODIES: usize = 64;
 const CLEARANCE: f64 = 2.0;
-
-/// Something to time: runs over all inputs once and returns how many calls that were.
-type Run<'a> = Box<dyn FnMut() -> usize + 'a>;
-
-/// The three ways of the same calls, side by side.
-struct Row<'a> {
-    name: String,
-    vertices: usize,
-    ways: [Run<'a>; 3],
-}
-
-/// Nanoseconds per call, over one run or as many as take this long.
-fn sample(run: &mut Run, least: Duration) -> f64 {
-    let start = Instant::now();
-    let mut calls = run();
-    while start.elapsed() < least {
-        calls += run();
-    }
-    start.elapsed().as_nanos() as f64 / calls as f64
-}
-
-/// The medians of the three, sampled in turn so that all meet the same conditions.
-fn medians(row: &mut Row, least: Duration) -> [f64; 3] {
-    let mut times = [const { Vec::new() }; 3];
-    for _ in 0..SAMPLES {
-        for (way, times) in row.ways.iter_mut().zip(&mut times) {
-            times.push(sample(way, least));
-        }
-    }
-    times.map(|mut times| {
-        times.sort_by(f64::total_cmp);
-        times[SAMPLES / 2]
-    })
-}
 
 /// A stepped bar of `count` vertices, z and radius in turn.
 fn section(count: usize) -> Vec<f64> {
@@ -62,16 +26,6 @@ fn section(count: usize) -> Vec<f64> {
 /// An octagon about (z, r).
 fn octagon(z: f64, r: f64) -> Vec<f64> {
     (0..8).flat_map(|i| [z + 3.0 * (0.785 * f64::from(i)).cos(), r + 3.0 * (0.785 * f64::from(i)).sin()]).collect()
-}
-
-/// Runs `call` on every input.
-fn over<'a, T, R>(inputs: &'a [T], mut call: impl FnMut(&'a T) -> R + 'a) -> Run<'a> {
-    Box::new(move || {
-        for input in inputs {
-            black_box(call(black_box(input)));
-        }
-        inputs.len()
-    })
 }
 
 macro_rules! rust {
@@ -106,7 +60,7 @@ fn body(random: &mut Random) -> Body {
     Body { x, y, z, radius: random.between(0.5, 8.0), corners: vertices(&octagon), octagon }
 }
 
-fn queries(least: Duration) {
+fn queries(table: &mut Table) {
     let mut random = Random::new(1, 0);
     let bodies: Vec<Body> = (0..BODIES).map(|_| body(&mut random)).collect();
     for count in [4, 16, 64, 256] {
@@ -130,7 +84,7 @@ fn queries(least: Duration) {
         let exact = rust!(revolve_exact, &exact, &points, &bodies);
         let names = ["point", "sphere", "box", "convex, 8 corners", "verdict of a box"];
         for (((name, libm), exact), port) in names.into_iter().zip(libm).zip(exact).zip(port) {
-            print_row(Row { name: name.into(), vertices: count, ways: [libm, exact, port] }, least);
+            table.row(Row { name: name.into(), vertices: count, ways: [libm, exact, port] });
         }
     }
 }
@@ -154,25 +108,34 @@ fn bar(body: &Body, across: bool) -> Cylinder {
 /// Settings for roughing.
 const COARSE: Settings = Settings { tolerance: 0.01, most: 64, intervals: 4 };
 
-/// A walk measures up to 8,192 boxes a call, so that there are few of them. The Rust has no settings but the finest.
-fn cylinders(least: Duration) {
+/// The first bars across the spindle, of a stream of them, whose walk beside this section is cut, or is not. A walk measures up
+/// to 8,192 boxes a call, so that there are few of them.
+fn bars_across(list: &[f64], cut: bool) -> Vec<Cylinder> {
     let mut random = Random::new(3, 0);
-    let bodies: Vec<Body> = (0..4).map(|_| body(&mut random)).collect();
-    let finest = Settings::FINEST;
-    let kinds = [
-        ("cylinder along", false, finest),
-        ("cylinder across", true, finest),
-        ("cylinder across; port at 0.01, 64, 4", true, COARSE),
-    ];
-    for (name, across, settings) in kinds {
-        let bars: Vec<Cylinder> = bodies.iter().map(|b| bar(b, across)).collect();
-        for count in [4, 16] {
-            let list = section(count);
-            let points = vertices(&list);
-            let port = over(&bars, |&c| bare::cylinder(&list, c, settings));
+    let some = if list.len() > 32 { 1 } else { 4 };
+    let walked = |&c: &Cylinder| bare::cylinder(list, c, Settings::FINEST).is_ok_and(|h| h.boxes > 1 && h.cut == cut);
+    std::iter::repeat_with(|| bar(&body(&mut random), true)).filter(walked).take(some).collect()
+}
+
+/// The Rust has no settings but the finest.
+fn cylinders(table: &mut Table) {
+    for count in [4, 16, 64, 256] {
+        let list = section(count);
+        let points = vertices(&list);
+        let mut random = Random::new(3, 0);
+        let along: Vec<Cylinder> = (0..4).map(|_| bar(&body(&mut random), false)).collect();
+        let [cut, uncut] = [true, false].map(|cut| bars_across(&list, cut));
+        let kinds = [
+            ("cylinder along", &along, Settings::FINEST),
+            ("cylinder across, cut", &cut, Settings::FINEST),
+            ("cylinder across, uncut", &uncut, Settings::FINEST),
+            ("cylinder across, cut; port at 0.01, 64, 4", &cut, COARSE),
+        ];
+        for (name, bars, settings) in kinds {
+            let port = over(bars, |&c| bare::cylinder(&list, c, settings));
             let ways =
-                [rust_cylinder!(revolve_libm, &points, &bars), rust_cylinder!(revolve_exact, &points, &bars), port];
-            print_row(Row { name: name.into(), vertices: count, ways }, least);
+                [rust_cylinder!(revolve_libm, &points, bars), rust_cylinder!(revolve_exact, &points, bars), port];
+            table.row(Row { name: name.into(), vertices: count, ways });
         }
     }
 }
@@ -191,7 +154,7 @@ macro_rules! rust_any {
 
 /// 64 boxes clear of the section, one of them put into it or none. The Rust has no such call: it judges box after box until one
 /// collides, and checks none of those behind it.
-fn assemblies(least: Duration) {
+fn assemblies(table: &mut Table) {
     for (name, place) in [("the first", Some(0)), ("the last", Some(BODIES - 1)), ("none", None)] {
         for count in [4, 16, 64, 256] {
             let list = section(count);
@@ -208,7 +171,7 @@ fn assemblies(least: Duration) {
                 rust_any!(revolve_exact, &points, &boxes, &once),
                 over(&once, |()| bare::any_hit(&list, &bodies, CLEARANCE)),
             ];
-            print_row(Row { name: format!("any hit of 64 boxes, {name} colliding"), vertices: count, ways }, least);
+            table.row(Row { name: format!("any hit of 64 boxes, {name} colliding"), vertices: count, ways });
         }
     }
 }
@@ -242,7 +205,7 @@ macro_rules! rust_moves {
 }
 
 /// A sphere and a box led along the section in 4,096 steps. The Rust has no such call: it asks for each step.
-fn moves(least: Duration) {
+fn moves(table: &mut Table) {
     for count in [4, 16, 64] {
         let list = section(count);
         let (list, points, once) = (list.as_slice(), vertices(&list), [()]);
@@ -252,21 +215,18 @@ fn moves(least: Duration) {
             bodies.map(|body| over(&once, move |()| bare::try_move(list, body, CLEARANCE, TRAVEL, Settings::FINEST)));
         let (libm, exact) = (rust_moves!(revolve_libm, &points, &once), rust_moves!(revolve_exact, &points, &once));
         for (((name, libm), exact), port) in ["sphere", "box"].into_iter().zip(libm).zip(exact).zip(port) {
-            print_row(
-                Row { name: format!("4,096 steps of a {name}"), vertices: count, ways: [libm, exact, port] },
-                least,
-            );
+            table.row(Row { name: format!("4,096 steps of a {name}"), vertices: count, ways: [libm, exact, port] });
         }
     }
 }
 
-fn roots(least: Duration) {
+fn roots(table: &mut Table) {
     let mut random = Random::new(2, 0);
     let pairs: Vec<(f64, f64)> = (0..1024).map(|_| (random.between(-50.0, 150.0), random.between(0.0, 60.0))).collect();
     let hypots: [fn(f64, f64) -> f64; 3] = [|a, b| f64::hypot(a, b), |a, b| exact_hypot::hypot(a, b), jorghipa::hypot];
     let squares: [fn(f64) -> f64; 3] = [|x| f64::sqrt(x), |x| exact_hypot::sqrt(x), jorghipa::sqrt];
     let ways = hypots.map(|hypot| over(&pairs, move |&(a, b)| hypot(a, b)));
-    print_row(Row { name: "hypot, throughput".into(), vertices: 0, ways }, least);
+    table.row(Row { name: "hypot, throughput".into(), vertices: 0, ways });
     let ways = hypots.map(|hypot| {
         let mut x = 1.0;
         over(&pairs, move |&(_, b)| {
@@ -274,9 +234,9 @@ fn roots(least: Duration) {
             x
         })
     });
-    print_row(Row { name: "hypot, chained".into(), vertices: 0, ways }, least);
+    table.row(Row { name: "hypot, chained".into(), vertices: 0, ways });
     let ways = squares.map(|sqrt| over(&pairs, move |&(_, b)| sqrt(b)));
-    print_row(Row { name: "sqrt, throughput".into(), vertices: 0, ways }, least);
+    table.row(Row { name: "sqrt, throughput".into(), vertices: 0, ways });
     let ways = squares.map(|sqrt| {
         let mut x = 1.0;
         over(&pairs, move |&(_, b)| {
@@ -284,26 +244,17 @@ fn roots(least: Duration) {
             x
         })
     });
-    print_row(Row { name: "sqrt, chained".into(), vertices: 0, ways }, least);
-}
-
-fn print_row(mut row: Row, least: Duration) {
-    let [libm, exact, port] = medians(&mut row, least);
-    let vertices = if row.vertices == 0 { String::new() } else { row.vertices.to_string() };
-    let (share, digits) = (port / libm, if port < 0.01 * libm { 4 } else { 2 });
-    println!("| {} | {vertices} | {libm:.1} | {exact:.1} | {port:.1} | {share:.digits$} |", row.name);
+    table.row(Row { name: "sqrt, chained".into(), vertices: 0, ways });
 }
 
 fn main() {
     let numbers = arguments::numbers(&arguments::words(USAGE), [20]);
     let [milliseconds] = numbers.unwrap_or_else(|problem| arguments::refuse(&problem, USAGE));
-    let least = Duration::from_millis(milliseconds);
-    println!("Median of {SAMPLES} samples of {milliseconds} ms, in nanoseconds per call.\n");
-    println!("| call | vertices | Rust, libm's hypot | Rust, exact hypot | port | port / Rust with libm |");
-    println!("|---|---:|---:|---:|---:|---:|");
-    queries(least);
-    assemblies(least);
-    moves(least);
-    cylinders(least);
-    roots(least);
+    let mut table = Table::new(milliseconds);
+    queries(&mut table);
+    assemblies(&mut table);
+    moves(&mut table);
+    cylinders(&mut table);
+    roots(&mut table);
+    table.end();
 }

@@ -79,9 +79,9 @@ fn query(case: &Case, totals: &mut Totals) -> Result<Option<(f64, bool)>, String
 
 fn verdict(random: &mut Random, case: &Case, distance: f64, totals: &mut Totals) -> Result<(), String> {
     let clearance = symmetry::clearance(random, &case.cylinder, distance);
-    let told = jorghipa::verdict_cylinder(&case.section, case.cylinder, clearance);
+    let told = jorghipa::bare::verdict_cylinder(&case.section, case.cylinder, clearance);
     for (name, moved, _) in MOVES {
-        let again = jorghipa::verdict_cylinder(&case.section, moved(case.cylinder), clearance);
+        let again = jorghipa::bare::verdict_cylinder(&case.section, moved(case.cylinder), clearance);
         if told != again {
             return Err(format!("  {case:?}, clearance {clearance:?}\n  {told:?}\n  {name}: {again:?}"));
         }
