@@ -15,6 +15,7 @@ pub mod pairs;
 pub mod port;
 pub mod query;
 pub mod root_cases;
+pub mod scenes;
 pub mod shrink;
 pub mod symmetry;
 pub mod timing;
