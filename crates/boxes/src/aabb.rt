@@ -8,8 +8,10 @@ ghost use Rattle.boxes.specs.Boxes.{strictlyInsideAabb, middle, segmentT
 ghost use Rattle.boxes.specs.Boxes.{boxGap, boxPenetration, boxWitness, boxDistance};
 ghost use Rattle.boxes.specs.Steps.{anyThrough, boxApart};
 use super::gap::box_gap;
-use points::deeper_at;
 use points::result_of;
+use probes::Probes;
+use probes::deeper_probe;
+use probes::odd_probes;
 use profile::Aabb;
 use profile::CollisionHit;
 use profile::Vertex;
@@ -59,15 +61,26 @@ fn box_penetration(s: &[f64], x: Aabb, witness: Witness) -> CollisionHit
     let c10 = Vertex { z: x.z1, r: x.r0 };
     let c11 = Vertex { z: x.z1, r: x.r1 };
     let c01 = Vertex { z: x.z0, r: x.r1 };
+    let centre = middle_of(c00, c11);
+    let odd = odd_probes(
+        s,
+        Probes {
+            centre,
+            c00,
+            c10,
+            c11,
+            c01,
+        },
+    );
     let none = CollisionHit {
         distance: 0.0,
         witness: witness,
     };
-    let centre = deeper_at(s, middle_of(c00, c11), none);
-    let first = deeper_at(s, c00, centre);
-    let second = deeper_at(s, c10, first);
-    let third = deeper_at(s, c11, second);
-    deeper_at(s, c01, third)
+    let start = deeper_probe(s, centre, odd.centre, none);
+    let first = deeper_probe(s, c00, odd.c00, start);
+    let second = deeper_probe(s, c10, odd.c10, first);
+    let third = deeper_probe(s, c11, odd.c11, second);
+    deeper_probe(s, c01, odd.c01, third)
 }
 
 // Vertex k, if it lies well inside, takes over the witness, with the edge that starts there.

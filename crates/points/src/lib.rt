@@ -4,6 +4,7 @@ mod points;
 
 pub use overlap::deeper_at;
 pub use overlap::result_of;
+pub use points::crosses;
 pub use points::meridian;
 pub use points::signed_distance_2d;
 pub use points::sphere_distance;

@@ -62,7 +62,7 @@ fn surface_near(s: &[f64], p: Vertex) -> CollisionHit
 }
 
 // The edge crosses the line from p along z, beyond p.
-fn crosses(p: Vertex, a: Vertex, b: Vertex) -> bool
+pub fn crosses(p: Vertex, a: Vertex, b: Vertex) -> bool
     ensures { λ r. ⌜ r ≡ crosses p a b ⌝ }
 {
     let pr = p.r;

@@ -1,38 +1,47 @@
--- `boxes::aabb::box_penetration` meets its contract.
-use Rattle.boxes.specs.Boxes.{boxPenetration}
+-- `boxes::aabb::box_penetration` meets its contract: the even-odd rule of the five probes is told in one pass.
 use borrow.Author.Needs.{needs}
 use Rattle.profile.specs.Vertices.{upto}
+use Rattle.points.specs.Points.{pointInside}
+use Rattle.boxes.specs.Boxes.{boxPenetration}
 use Rattle.boxes.proofs.aabb.box_penetration.Statement.{statement}
 use Rattle.boxes.proofs.aabb.box_penetration.Tie as tie
 
 middle-of-requires : tie.Need-middle-of-requires
 middle-of-requires c κs = search needs
 
-deeper-at-requires : tie.Need-deeper-at-requires
-deeper-at-requires c κs = search needs
+odd-probes-requires : tie.Need-odd-probes-requires
+odd-probes-requires c κs = search needs
 
-deeper-at-requires-2 : tie.Need-deeper-at-requires-2
-deeper-at-requires-2 c κs = search needs
+deeper-probe-requires : tie.Need-deeper-probe-requires
+unfolding pointInside
+deeper-probe-requires c κs = (search needs, c .odd-probes .ensures .centre)
 
-deeper-at-requires-3 : tie.Need-deeper-at-requires-3
-deeper-at-requires-3 c κs = search needs
+deeper-probe-requires-2 : tie.Need-deeper-probe-requires-2
+unfolding pointInside
+deeper-probe-requires-2 c κs = (search needs, c .before .odd-probes .ensures .c00)
 
-deeper-at-requires-4 : tie.Need-deeper-at-requires-4
-deeper-at-requires-4 c κs = search needs
+deeper-probe-requires-3 : tie.Need-deeper-probe-requires-3
+unfolding pointInside
+deeper-probe-requires-3 c κs = (search needs, c .before .before .odd-probes .ensures .c10)
 
-deeper-at-requires-5 : tie.Need-deeper-at-requires-5
-deeper-at-requires-5 c κs = search needs
+deeper-probe-requires-4 : tie.Need-deeper-probe-requires-4
+unfolding pointInside
+deeper-probe-requires-4 c κs = (search needs, c .before .before .before .odd-probes .ensures .c11)
+
+deeper-probe-requires-5 : tie.Need-deeper-probe-requires-5
+unfolding pointInside
+deeper-probe-requires-5 c κs = (search needs, c .before .before .before .before .odd-probes .ensures .c01)
 
 returns : tie.Need-returns
 unfolding boxPenetration upto
 returns c =
     rw (
-      ← c .before .before .before .before .before .middle-of .ensures,
-      ← c .before .before .before .before .deeper-at .ensures,
-      ← c .before .before .before .deeper-at2 .ensures,
-      ← c .before .before .deeper-at3 .ensures,
-      ← c .before .deeper-at4 .ensures,
-      ← c .deeper-at5 .ensures,
+      ← c .before .before .before .before .before .before .middle-of .ensures,
+      ← c .before .before .before .before .deeper-probe .ensures,
+      ← c .before .before .before .deeper-probe2 .ensures,
+      ← c .before .before .deeper-probe3 .ensures,
+      ← c .before .deeper-probe4 .ensures,
+      ← c .deeper-probe5 .ensures,
     )
 
 pub box-penetration-spec : {M : Type 1} → statement M
@@ -40,9 +49,10 @@ box-penetration-spec =
     tie.close
     (tie.spec
     middle-of-requires
-    deeper-at-requires
-    deeper-at-requires-2
-    deeper-at-requires-3
-    deeper-at-requires-4
-    deeper-at-requires-5
+    odd-probes-requires
+    deeper-probe-requires
+    deeper-probe-requires-2
+    deeper-probe-requires-3
+    deeper-probe-requires-4
+    deeper-probe-requires-5
     returns)

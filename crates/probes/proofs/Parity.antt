@@ -1,0 +1,35 @@
+-- The even-odd rule at five probes: before the first edge, one edge more, and at the end; and what it tells off the axis.
+use Prim.Native.Nat.{ℕ, _+_}
+use mathlib.Core.Bool.{false}
+use mathlib.Core.List.{List}
+use mathlib.Core.Path.{_≡_, refl, subst}
+use lib.Ieee.{Float}
+use Rattle.arith.specs.F64.{_≼_, e-8}
+use Rattle.profile.specs.Vertices.{edgeAt, upto}
+use Rattle.profile.specs.declared.shapes.Vertex.{Vertex}
+use Rattle.profile.proofs.Fold.{upto-more}
+use Rattle.points.specs.Points.{inSection, pointInside}
+use Rattle.probes.specs.Probes.{OddNext, OddProbes}
+use Rattle.probes.specs.declared.shapes.Odd.{Odd}
+use Rattle.probes.specs.declared.shapes.Probes.{Probes}
+
+module _ (s : List Float) (at : Probes) where
+  pub at-first : OddProbes s at 0 (record { centre = false; c00 = false; c10 = false; c11 = false; c01 = false })
+  unfolding upto
+  at-first = record { centre = refl; c00 = refl; c10 = refl; c11 = refl; c01 = refl }
+
+  pub one-more : {odd r : Odd} (k : ℕ) → OddProbes s at k odd → OddNext at (edgeAt s k) odd r → OddProbes s at (k + 1) r
+  one-more k h e = record {
+    centre = upto-more _ _ k (h .centre) (e .centre);
+    c00 = upto-more _ _ k (h .c00) (e .c00);
+    c10 = upto-more _ _ k (h .c10) (e .c10);
+    c11 = upto-more _ _ k (h .c11) (e .c11);
+    c01 = upto-more _ _ k (h .c01) (e .c01);
+  }
+
+  pub at-last : {odd : Odd} (k n : ℕ) → k ≡ n → OddProbes s at k odd → OddProbes s at n odd
+  at-last {odd} k n e h = subst (λ (m : ℕ). OddProbes s at m odd) e h
+
+pub off-axis : (s : List Float) (p : Vertex) → pointInside s p ≡ false → (p .r ≼ e-8) ≡ false → inSection s p ≡ false
+unfolding inSection
+off-axis s p e l = rw (e, l)

@@ -1,0 +1,2 @@
+-- Parities of crossings at five probes.
+pub mod Probes

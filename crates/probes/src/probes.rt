@@ -1,0 +1,78 @@
+// The even-odd rule at five probes at once, and the depth at one of them.
+ghost use mathlib.Core.Path.{_≡_};
+ghost use Prim.Native.Nat.{_<_, _≤_};
+ghost use lib.Ieee.{unlike};
+ghost use Rattle.profile.specs.Vertices.{count, vertexAt, endAt, edgeAt, nearer};
+ghost use Rattle.points.specs.Points.{crosses, pointInside, pointDistance};
+ghost use Rattle.probes.specs.Probes.{OddNext, OddProbes};
+use super::shapes::Odd;
+use super::shapes::Probes;
+use points::crosses;
+use points::deeper_at;
+use profile::CollisionHit;
+use profile::Edge;
+use profile::Vertex;
+use profile::edge_at;
+
+fn odd_after(p: Vertex, edge: Edge, odd: bool) -> bool
+    ensures { λ r. ⌜ r ≡ unlike odd (crosses p (edge .a) (edge .b)) ⌝ }
+{
+    odd != crosses(p, edge.a, edge.b)
+}
+
+// One edge more.
+fn odd_next(edge: Edge, at: Probes, odd: Odd) -> Odd
+    ensures { λ r. ⌜ OddNext at edge odd r ⌝ }
+{
+    Odd {
+        centre: odd_after(at.centre, edge, odd.centre),
+        c00: odd_after(at.c00, edge, odd.c00),
+        c10: odd_after(at.c10, edge, odd.c10),
+        c11: odd_after(at.c11, edge, odd.c11),
+        c01: odd_after(at.c01, edge, odd.c01),
+    }
+}
+
+fn odd_at(s: &[f64], at: Probes, k: usize, odd: Odd) -> Odd
+    requires { ⌜ k < count (now s) ⌝ }
+    ensures { λ r. ⌜ OddNext at (edgeAt (now (s .entry)) k) odd r ⌝ }
+{
+    odd_next(edge_at(s, k), at, odd)
+}
+
+pub fn odd_probes(s: &[f64], at: Probes) -> Odd
+    ensures { λ r. ⌜ OddProbes (now (s .entry)) at (count (now (s .entry))) r ⌝ }
+{
+    let n = s.len() / 2;
+    let mut odd = Odd {
+        centre: false,
+        c00: false,
+        c10: false,
+        c11: false,
+        c01: false,
+    };
+    let mut k = 0;
+    while k < n {
+        odd = odd_at(s, at, k, odd);
+        k += 1;
+    }
+    odd
+}
+
+// The section may be deeper at p, of which the even-odd rule is known. Outside it is not below 0, and needs
+// no distance.
+pub fn deeper_probe(s: &[f64], p: Vertex, odd: bool, best: CollisionHit) -> CollisionHit
+    requires { ⌜ (3 ≤ count (now s)) × (odd ≡ pointInside (now s) p) ⌝ }
+    ensures { λ r. ⌜ r ≡ nearer best (pointDistance (now (s .entry)) p) ⌝ }
+{
+    if odd {
+        return deeper_at(s, p, best);
+    }
+    if p.r <= 1e-8 {
+        return deeper_at(s, p, best);
+    }
+    if best.distance <= 0.0 {
+        return best;
+    }
+    deeper_at(s, p, best)
+}
