@@ -1,5 +1,6 @@
--- The first smallest, sought on from the best so far: what starts at +infinity and is then held against the best is what starts at the
--- best; and a search that starts over what it meets anyway finds the same. By transitivity of the order; a NaN is never taken.
+-- The first smallest, sought on from the best so far: what starts at +infinity and is then held against the best is what starts
+-- at the best; and a search that starts over what it meets anyway finds the same. By transitivity of the order; a NaN is never
+-- taken.
 use Prim.Native.Nat.{ℕ, zero, suc, _+_, _<_}
 use mathlib.Core.Bool.{Bool, true, false, cond}
 use mathlib.Core.Path.{_≡_, refl, sym, ap, subst, _∙_}

@@ -1,5 +1,5 @@
--- An edge that is passed over by one axis alone is not nearer than the best so far: it has no clip, and none of the box's four sides is
--- nearer. By the laws of ranges and of sides that miss.
+-- An edge that is passed over by one axis alone is not nearer than the best so far: it has no clip, and none of the box's four
+-- sides is nearer. By the laws of ranges and of sides that miss.
 use Prim.Native.Nat.{ℕ}
 use mathlib.Core.Bool.{Bool, true, false, _&&_}
 use mathlib.Core.Path.{_≡_, refl, subst, sym, _∙_}

@@ -1,5 +1,5 @@
--- What a box distance needs not read: the gap, where a vertex lies well inside or a probe is deeper than 1e-9; the edges' clips, where
--- the gap is above 0. By the laws of the first smallest, and by induction over the vertices.
+-- What a box distance need not read: the gap, where a vertex lies well inside or a probe is deeper than 1e-9; the edges' clips,
+-- where the gap is above 0. By the laws of the first smallest, and by induction over the vertices.
 use Prim.Native.Nat.{ℕ, zero, suc, _<_}
 use mathlib.Core.Bool.{Bool, true, false, not, _||_, cond}
 use mathlib.Core.List.{List}
@@ -133,8 +133,8 @@ module _ (s : List Float) (x : Aabb) where
   gap-least : (k : ℕ) → k < count s → T (not (edgeBox x (edgeAt s k) .distance ≺ boxGap s x .distance))
   unfolding boxGap
   gap-least k l =
-      none-nearer every (λ j. edgeBox x (edgeAt s j)) (hit ∞ (on 0 (vertexAt s 0))) infinite (λ j. edge-held x (edgeAt s j)) (count s)
-      k l tt
+      none-nearer every (λ j. edgeBox x (edgeAt s j)) (hit ∞ (on 0 (vertexAt s 0))) infinite
+      (λ j. edge-held x (edgeAt s j)) (count s) k l tt
 
   pub apart : (𝟘 ≺ boxGap s x .distance) ≡ true → any through (count s) ≡ false
   apart e = none-through (count s) (λ k l. go k l (clip x (vertexAt s k) (endAt s k) .any) refl)
@@ -169,7 +169,8 @@ module _ (s : List Float) (x : Aabb) where
   box-deep w e d =
       let i = same-deep (boxGap s x .witness) w d in
       hits (deep-result (ap (λ (h : CollisionHit). h .distance) (sym i)) d (boxHolds s x) (boxGap s x .distance))
-      (ap (λ (h : CollisionHit). h .witness) (sym i) ∙ sym (none-inside (boxPenetration s x (boxGap s x .witness) .witness) (count s) e))
+      (ap (λ (h : CollisionHit). h .witness) (sym i)
+      ∙ sym (none-inside (boxPenetration s x (boxGap s x .witness) .witness) (count s) e))
 
   -- neither
   pub box-apart : {deep : CollisionHit} (w : Witness) → deep ≡ boxPenetration s x w → any inside (count s) ≡ false
@@ -178,4 +179,5 @@ module _ (s : List Float) (x : Aabb) where
   box-apart {deep} w i e =
       let f = ap (nearer (hit 𝟘 (boxGap s x .witness))) i ∙ other-start (boxGap s x .witness) w in
       hits (same-result (ap (λ (h : CollisionHit). h .distance) f) (sym (holds-edge e)) (boxGap s x .distance))
-      (ap (λ (h : CollisionHit). h .witness) f ∙ sym (none-inside (boxPenetration s x (boxGap s x .witness) .witness) (count s) e))
+      (ap (λ (h : CollisionHit). h .witness) f
+      ∙ sym (none-inside (boxPenetration s x (boxGap s x .witness) .witness) (count s) e))

@@ -1,5 +1,6 @@
--- An edge whose computed points lie as far from those of a segment, along one axis, as the best so far is not nearer. By the ranges that
--- hold the points, and the law that what a gap reaches a hypot reaches. One range holds the points of a box's four sides.
+-- An edge whose computed points lie as far from those of a segment, along one axis, as the best so far is not nearer. By the
+-- ranges that hold the points, and the law that what a gap reaches a hypot reaches. One range holds the points of a box's four
+-- sides.
 use Prim.Native.Nat.{ℕ, _+_, _≤_}
 use native.Mathlib.Nat.{le-of-eq, le-trans}
 use native.Mathlib.Omega.{arith}
@@ -25,7 +26,8 @@ use Rattle.segments.specs.Segments.{closestPlaces, dot, minus, places, segments
 use Rattle.segments.specs.declared.shapes.Places.{Places}
 use Rattle.ranges.specs.Ranges.{farApart, rangeOf, sidesRange}
 use Rattle.ranges.specs.declared.shapes.Range.{Range}
-use Rattle.ranges.proofs.Ranges.{Ended, Holds, held-first, held-second, joined-ended, range-ended, range-holds, range-starts, stays}
+use Rattle.ranges.proofs.Ranges.{Ended, Holds, held-first, held-second, joined-ended, range-ended, range-holds}
+use Rattle.ranges.proofs.Ranges.{range-starts, stays}
 
 -- ---- how far along two segments: from 0 to 1, or a NaN
 one-key : key binary64 𝟙 ≤ mid binary64 + unit binary64
@@ -45,7 +47,8 @@ neither (fin s m i) X h k =
 
 zero-share : Share binary64 𝟘
 zero-share =
-    share (zero-finite 0 .bounded .sure) (le-of-eq (sym zero-key)) (zero-most (key binary64 𝟘) (mid binary64) (unit binary64) zero-key)
+    share (zero-finite 0 .bounded .sure) (le-of-eq (sym zero-key))
+    (zero-most (key binary64 𝟘) (mid binary64) (unit binary64) zero-key)
   where
     zero-most : (k m u : ℕ) → k ≡ m → k ≤ m + u
     zero-most k m u e = omega arith
@@ -106,9 +109,11 @@ module _ (least : Float) (B : fits binary64 least ≡ true) (g h : Range) (G : E
       go : (t : Bool) → (least ≼ g .lo ⊖ h .hi) ≡ t → (t || (least ≼ h .lo ⊖ g .hi)) ≡ true
           → (hypot binary64 (x ⊖ y) z ≺ least) ≡ false
       go true k e =
-          gap-above binary64 least z B Z x y (g .lo) (h .hi) X Y (held (g .lo) (G .low)) (held (h .hi) (H .high)) k (P .low) (Q .high)
+          gap-above binary64 least z B Z x y (g .lo) (h .hi) X Y (held (g .lo) (G .low)) (held (h .hi) (H .high)) k
+          (P .low) (Q .high)
       go false k e =
-          gap-below binary64 least z B Z x y (h .lo) (g .hi) X Y (held (h .lo) (H .low)) (held (g .hi) (G .high)) e (Q .low) (P .high)
+          gap-below binary64 least z B Z x y (h .lo) (g .hi) X Y (held (h .lo) (H .low)) (held (g .hi) (G .high)) e
+          (Q .low) (P .high)
 
 -- ---- an edge and a segment: h holds the segment's points along z, or along the radius
 module _ (least : Float) (B : fits binary64 least ≡ true) (e : Edge) (q q′ : Vertex) (h : Range) (H : Ended h) where

@@ -1,5 +1,5 @@
--- A side of a box that alone leaves nothing of a segment leaves nothing of it after the other sides, so that the clip is none. By the
--- order alone: what the other sides leave lies from 0 to 1, and the quotient lies outside.
+-- A side of a box that alone leaves nothing of a segment leaves nothing of it after the other sides, so that the clip is none. By
+-- the order alone: what the other sides leave lies from 0 to 1, and the quotient lies outside.
 use mathlib.Core.Bool.{Bool, true, false, not, cond, _||_}
 use mathlib.Core.Path.{_≡_, refl, sym, ap, subst, _∙_}
 use lib.Dec.{T}
@@ -8,7 +8,8 @@ use lib.Ieee.Fits.{div-fits}
 use Rattle.roots.proofs.Rounding.Key.{number}
 use Rattle.arith.specs.F64.{_⊖_, _⊘_, _≺_, _≼_, 𝟘, 𝟙, e-15, e-18}
 use Rattle.arith.specs.Num.{abs}
-use Rattle.arith.proofs.Laws.OrderHeld.{true→T, below-number, held-number, lt-trans-held, not-less-nan, not-lt-trans-held, number-held}
+use Rattle.arith.proofs.Laws.OrderHeld.{true→T, below-number, held-number, lt-trans-held, not-less-nan, not-lt-trans-held}
+use Rattle.arith.proofs.Laws.OrderHeld.{number-held}
 use Rattle.profile.specs.declared.shapes.Aabb.{Aabb}
 use Rattle.profile.specs.declared.shapes.Vertex.{Vertex}
 use Rattle.segments.specs.Clip.{clip, clipSide, outside, part}

@@ -1,5 +1,5 @@
--- A segment's range holds its computed points, and joined ranges hold what each holds. By the law that such a point lies between the
--- segment's computed ends; a NaN is held by every range.
+-- A segment's range holds its computed points, and joined ranges hold what each holds. By the law that such a point lies between
+-- the segment's computed ends; a NaN is held by every range.
 use Prim.Native.Nat.{ℕ, _≤_, _<_}
 use native.Mathlib.Nat.{le-of-eq, le-of-lt, le-refl, le-trans}
 use native.Mathlib.Omega.{arith}
@@ -59,7 +59,8 @@ itself x X = let N = number-of binary64 x X in lt-key binary64 x x N N ∙ le-lt
 zero-step : (x : Float) → T (finiteNumber binary64 x) → T (finiteNumber binary64 (x ⊖ x))
 zero-step x X =
     let e = no-step binary64 x X in
-    finite-inside binary64 (x ⊖ x) (sub-number binary64 x x X X) (omega (arith, e, mid-pos binary64)) (omega (arith, e, mid-pos binary64))
+    finite-inside binary64 (x ⊖ x) (sub-number binary64 x x X X) (omega (arith, e, mid-pos binary64))
+    (omega (arith, e, mid-pos binary64))
 
 module _ (a b : Float) (A : T (fits binary64 a)) where
   -- what is said of the range where the step is finite, and of everything, is said of the range
@@ -84,7 +85,8 @@ module _ (a b : Float) (A : T (fits binary64 a)) where
 
   pub range-ended : Ended (rangeOf a b)
   unfolding neg
-  range-ended = by-step Ended (λ F D q h k. go F D q) (record { low = inf-number binary64 true; high = inf-number binary64 false })
+  range-ended =
+      by-step Ended (λ F D q h k. go F D q) (record { low = inf-number binary64 true; high = inf-number binary64 false })
     where
       go : T (finiteNumber binary64 a) → T (finiteNumber binary64 (b ⊖ a)) → (q : Bool)
           → Ended (cond q (range (a ⊕ (b ⊖ a)) a) (range a (a ⊕ (b ⊖ a))))

@@ -1,5 +1,5 @@
--- Where the computed points of a segment lie along one axis, and those of a box's four sides; and when one side of a box alone leaves
--- nothing of a segment. Only what functions below the entry points promise each other: no answer is defined by it.
+-- Where the computed points of a segment lie along one axis, and those of a box's four sides; and when one side of a box alone
+-- leaves nothing of a segment. Only what functions below the entry points promise each other: no answer is defined by it.
 use mathlib.Core.Bool.{Bool, false, cond, _&&_, _||_}
 use lib.Ieee.{Float, neg}
 use Rattle.arith.specs.F64.{_⊕_, _⊖_, _⊘_, _≺_, _≼_, 𝟘, 𝟙, ∞, e-15, e-18}

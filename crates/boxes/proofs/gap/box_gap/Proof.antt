@@ -43,8 +43,9 @@ gap-from-requires-2 c κs = search needs
 returns : tie.Need-returns
 unfolding boxGap
 returns c =
+    let none = c .before .before .before .before .before .before in
     met-first _ (λ j. edge-held _ _) _ _ _ (c .before .before .before .before .before .likely-edge .ensures) _ _ _
-    (rw (c .before .before .before .before .before .before .on .ensures, c .before .before .before .before .before .before .before .vertex-at .ensures, c .before .before .before .before .before .before .before .before .infinity .ensures))
+    (rw (none .on .ensures, none .before .vertex-at .ensures, none .before .before .infinity .ensures))
     (c .before .before .before .before .gap-at .ensures) (c .before .before .before .start-over .ensures)
     (c .before .before .gap-from .ensures) (c .before .nearer-of .ensures) (c .gap-from2 .ensures)
 

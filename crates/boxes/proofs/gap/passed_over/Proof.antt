@@ -12,7 +12,8 @@ returns : tie.Need-returns
 returns c =
     let start = c .before .before .before .before in
     λ t. passed-z (start .args .least) (start .args .x) (start .args .edge) (start .good .1 .1 .1 .0 .1) (start .pre)
-    (true→T (start .good .0 .1 .1 .0 .1 .1 .0 .1)) (true→T (start .good .1 .0 .1 .1 .0 .1)) (true→T (start .good .1 .0 .1 .1 .1 .0 .1))
+    (true→T (start .good .0 .1 .1 .0 .1 .1 .0 .1)) (true→T (start .good .1 .0 .1 .1 .0 .1))
+    (true→T (start .good .1 .0 .1 .1 .1 .0 .1))
     (c .before .passed-along .ensures) (c .if1 .taken)
 
 passed-along-requires-2 : tie.Need-passed-along-requires-2
