@@ -24,7 +24,7 @@ use Rattle.boxes.specs.Boxes.{boxDistance, boxGap, boxHolds, boxPenetrat
 use Rattle.boxes.specs.Boxes.{segmentThroughInterior, strictlyInsideAabb}
 use Rattle.boxes.specs.Steps.{boxApart}
 use Rattle.boxes.proofs.Held.{edge-held}
-use Rattle.boxes.proofs.Nearest.{nearest-shift}
+use Rattle.ranges.proofs.Nearest.{nearest-shift}
 
 -- ---- parts of a result
 hits : {d e : Float} {w v : Witness} → d ≡ e → w ≡ v → hit d w ≡ hit e v

@@ -8,7 +8,7 @@ ghost use Rattle.profile.specs.Vertices.{count, vertexAt, endAt, edgeAt, nearer
 ghost use Rattle.segments.specs.Segments.{segments};
 ghost use Rattle.ranges.specs.Ranges.{sidesOf};
 ghost use Rattle.boxes.specs.Boxes.{corners, edgeBox, boxGap};
-ghost use Rattle.boxes.specs.Steps.{StartOver, GapFrom};
+ghost use Rattle.boxes.specs.Steps.{GapFrom};
 use profile::Aabb;
 use profile::CollisionHit;
 use profile::Edge;
@@ -21,6 +21,7 @@ use ranges::Sides;
 use ranges::likely_edge;
 use ranges::passed_along;
 use ranges::sides_of;
+use ranges::start_over;
 use segments::clip_segment;
 use segments::lerp;
 use segments::seg_seg_point_on_first;
@@ -100,21 +101,6 @@ fn gap_from(
         k += 1;
     }
     best
-}
-
-// A little over what was found, where there is such a number.
-fn start_over(first: CollisionHit, none: CollisionHit) -> CollisionHit
-    ensures { λ r. ⌜ StartOver first none r ⌝ }
-{
-    let witness = none.witness;
-    let bar = first.distance * 1.0000001 + 1e-18;
-    if first.distance < bar {
-        return CollisionHit {
-            distance: bar,
-            witness,
-        };
-    }
-    none
 }
 
 pub fn box_gap(s: &[f64], x: Aabb) -> CollisionHit

@@ -3,3 +3,4 @@ pub mod Numbers
 pub mod Asked
 pub mod Edges
 pub mod Outside
+pub mod Surface

@@ -1,4 +1,5 @@
 // The distance of a point and of a sphere to a half-section, and what bodies that overlap it share.
+mod near;
 mod overlap;
 mod points;
 

@@ -1,65 +1,20 @@
 // The distance of a point and of a sphere to the section, and its sign.
 ghost use mathlib.Core.Path.{_≡_};
-ghost use mathlib.Core.Bool.{cond};
 ghost use Prim.Native.Nat.{_<_, _≤_};
 ghost use lib.Ieee.{unlike};
-ghost use Rattle.profile.specs.Vertices.{count, vertexAt, endAt, any, nearer};
-ghost use Rattle.segments.specs.Segments.{closest};
+ghost use Rattle.profile.specs.Vertices.{count, vertexAt, endAt, any};
 ghost use Rattle.points.specs.Points as points;
-ghost use Rattle.points.specs.Points.{edgeIsSurface, surfaceStep, surfaceNear, crosses, pointInside};
-ghost use Rattle.points.specs.Points.{insideAxisEdge, inSection, pointDistance, sphereDistance};
+ghost use Rattle.points.specs.Points.{crosses, pointInside, insideAxisEdge, inSection};
+ghost use Rattle.points.specs.Points.{pointDistance, sphereDistance};
+use super::near::edge_is_surface;
+use super::near::surface_near;
 use arith::Vec3;
 use profile::CollisionHit;
-use profile::Edge;
 use profile::Sphere;
 use profile::Vertex;
-use profile::edge_at;
 use profile::end_at;
-use profile::on;
 use profile::vertex_at;
 use segments::BOUNDARY;
-use segments::point_segment;
-
-// An edge with both ends on the axis is no surface.
-fn edge_is_surface(a: Vertex, b: Vertex) -> bool
-    ensures { λ r. ⌜ r ≡ edgeIsSurface a b ⌝ }
-{
-    arith::abs(a.r) > 1e-9 || arith::abs(b.r) > 1e-9
-}
-
-// The edge, if it counts, lowers the distance that best has.
-fn surface_edge(p: Vertex, edge: Edge, best: CollisionHit) -> CollisionHit
-    ensures { λ r. ⌜ r ≡ cond (edgeIsSurface (edge .a) (edge .b)) (nearer best (closest p edge)) best ⌝ }
-{
-    if edge_is_surface(edge.a, edge.b) {
-        return point_segment(p, edge, best);
-    }
-    best
-}
-
-fn surface_step(s: &[f64], p: Vertex, k: usize, best: CollisionHit) -> CollisionHit
-    requires { ⌜ k < count (now s) ⌝ }
-    ensures { λ r. ⌜ r ≡ surfaceStep (now (s .entry)) p k best ⌝ }
-{
-    surface_edge(p, edge_at(s, k), best)
-}
-
-fn surface_near(s: &[f64], p: Vertex) -> CollisionHit
-    requires { ⌜ 3 ≤ count (now s) ⌝ }
-    ensures { λ r. ⌜ r ≡ surfaceNear (now (s .entry)) p ⌝ }
-{
-    let n = s.len() / 2;
-    let mut best = CollisionHit {
-        distance: arith::infinity(),
-        witness: on(0, vertex_at(s, 0)),
-    };
-    let mut k = 0;
-    while k < n {
-        best = surface_step(s, p, k, best);
-        k += 1;
-    }
-    best
-}
 
 // The edge crosses the line from p along z, beyond p.
 pub fn crosses(p: Vertex, a: Vertex, b: Vertex) -> bool

@@ -1,10 +1,10 @@
--- An edge whose computed points lie as far from those of a segment, along one axis, as the best so far is not nearer. By the
--- ranges that hold the points, and the law that what a gap reaches a hypot reaches. One range holds the points of a box's four
--- sides.
+-- An edge whose computed points lie as far from a point, or from those of a segment, along one axis, as the best so far is not
+-- nearer. By the ranges that hold the points, and the law that what a gap reaches a hypot reaches. One range holds the points of
+-- a box's four sides.
 use Prim.Native.Nat.{ℕ, _+_, _≤_}
 use native.Mathlib.Nat.{le-of-eq, le-trans}
 use native.Mathlib.Omega.{arith}
-use mathlib.Core.Bool.{Bool, true, false, not, cond, _||_}
+use mathlib.Core.Bool.{Bool, true, false, not, cond, _||_, or-true}
 use mathlib.Core.Path.{_≡_, refl, sym}
 use lib.Dec.{T, lit≤}
 use lib.Ieee.{Float, nan, inf, fin, binary64, fits, lt, neg, ofBits}
@@ -13,7 +13,7 @@ use Rattle.roots.specs.Roots.{hypot}
 use Rattle.roots.proofs.Rounding.Key.{finiteNumber, key, magnitude, mid, number, number-of, unit}
 use Rattle.roots.proofs.Rounding.KeyOrder.{nlt→key}
 use Rattle.arith.specs.F64.{_⊕_, _⊖_, _⊗_, _⊘_, _≺_, _≼_, 𝟘, 𝟙, e-18, e-24}
-use Rattle.arith.specs.Num.{abs}
+use Rattle.arith.specs.Num.{abs, isFinite}
 use Rattle.arith.proofs.Laws.Along.{Share, no-number, share}
 use Rattle.arith.proofs.Laws.Gap.{gap-above, gap-below}
 use Rattle.arith.proofs.Laws.Hypot.{hypot-comm}
@@ -22,12 +22,12 @@ use Rattle.arith.proofs.Laws.Sizes.{finite-number, one-finite, zero-finite, zer
 use Rattle.profile.specs.declared.shapes.Edge.{Edge}
 use Rattle.profile.specs.declared.shapes.Vertex.{Vertex}
 use Rattle.profile.proofs.Steps.{pick}
-use Rattle.segments.specs.Segments.{closestPlaces, dot, minus, places, segments, unitClamp}
+use Rattle.segments.specs.Segments.{apart, closestPlaces, closestPoint, dot, minus, places, segments, unitClamp}
 use Rattle.segments.specs.declared.shapes.Places.{Places}
-use Rattle.ranges.specs.Ranges.{farApart, rangeOf, sidesRange}
+use Rattle.ranges.specs.Ranges.{farApart, range, rangeOf, sidesRange}
 use Rattle.ranges.specs.declared.shapes.Range.{Range}
-use Rattle.ranges.proofs.Ranges.{Ended, Holds, held-first, held-second, joined-ended, range-ended, range-holds}
-use Rattle.ranges.proofs.Ranges.{range-starts, stays}
+use Rattle.ranges.proofs.Ranges.{Ended, Holds, held-first, held-second, joined-ended, not-below-itself, range-ended}
+use Rattle.ranges.proofs.Ranges.{range-holds, range-starts, stays}
 
 -- ---- how far along two segments: from 0 to 1, or a NaN
 one-key : key binary64 𝟙 ≤ mid binary64 + unit binary64
@@ -99,7 +99,15 @@ module _ (a b c e f : Float) where
 held : (x : Float) → T (number binary64 x) → T (fits binary64 x)
 held = number-held binary64
 
-module _ (least : Float) (B : fits binary64 least ≡ true) (g h : Range) (G : Ended g) (H : Ended h)
+-- f64 holds both ends, which may be NaNs
+record HeldEnds (g : Range) : Type 0 where
+  low : T (fits binary64 (g .lo))
+  high : T (fits binary64 (g .hi))
+
+ends : (g : Range) → Ended g → HeldEnds g
+ends g G = record { low = held (g .lo) (G .low); high = held (g .hi) (G .high) }
+
+module _ (least : Float) (B : fits binary64 least ≡ true) (g h : Range) (G : HeldEnds g) (H : HeldEnds h)
     (x y z : Float) (X : T (fits binary64 x)) (Y : T (fits binary64 y)) (Z : T (fits binary64 z))
     (P : Holds g x) (Q : Holds h y) where
   far-not-less : farApart least g h ≡ true → (hypot binary64 (x ⊖ y) z ≺ least) ≡ false
@@ -108,12 +116,8 @@ module _ (least : Float) (B : fits binary64 least ≡ true) (g h : Range) (G : E
     where
       go : (t : Bool) → (least ≼ g .lo ⊖ h .hi) ≡ t → (t || (least ≼ h .lo ⊖ g .hi)) ≡ true
           → (hypot binary64 (x ⊖ y) z ≺ least) ≡ false
-      go true k e =
-          gap-above binary64 least z B Z x y (g .lo) (h .hi) X Y (held (g .lo) (G .low)) (held (h .hi) (H .high)) k
-          (P .low) (Q .high)
-      go false k e =
-          gap-below binary64 least z B Z x y (h .lo) (g .hi) X Y (held (h .lo) (H .low)) (held (g .hi) (G .high)) e
-          (Q .low) (P .high)
+      go true k e = gap-above binary64 least z B Z x y (g .lo) (h .hi) X Y (G .low) (H .high) k (P .low) (Q .high)
+      go false k e = gap-below binary64 least z B Z x y (h .lo) (g .hi) X Y (H .low) (G .high) e (Q .low) (P .high)
 
 -- ---- an edge and a segment: h holds the segment's points along z, or along the radius
 module _ (least : Float) (B : fits binary64 least ≡ true) (e : Edge) (q q′ : Vertex) (h : Range) (H : Ended h) where
@@ -125,7 +129,7 @@ module _ (least : Float) (B : fits binary64 least ≡ true) (e : Edge) (q q′ :
       let d′ = minus q′ q in
       let r = minus (e .a) q in
       let at = places-shares (dot d d) (dot d d′) (dot d r) (dot d′ d′) (dot d′ r) in
-      far-not-less least B (rangeOf (e .a .z) (e .b .z)) h (range-ended (e .a .z) (e .b .z) P) H _ _ _
+      far-not-less least B (rangeOf (e .a .z) (e .b .z)) h (ends _ (range-ended (e .a .z) (e .b .z) P)) (ends h H) _ _ _
       (add-fits binary64 _ _) (add-fits binary64 _ _) (sub-fits binary64 _ _)
       (range-holds (e .a .z) (e .b .z) P _ (at .s)) (k _ (at .t)) far
 
@@ -138,9 +142,71 @@ module _ (least : Float) (B : fits binary64 least ≡ true) (e : Edge) (q q′ :
       let r = minus (e .a) q in
       let at = places-shares (dot d d) (dot d d′) (dot d r) (dot d′ d′) (dot d′ r) in
       rw (hypot-comm binary64)
-      (far-not-less least B (rangeOf (e .a .r) (e .b .r)) h (range-ended (e .a .r) (e .b .r) P) H _ _ _
+      (far-not-less least B (rangeOf (e .a .r) (e .b .r)) h (ends _ (range-ended (e .a .r) (e .b .r) P)) (ends h H) _ _ _
       (add-fits binary64 _ _) (add-fits binary64 _ _) (sub-fits binary64 _ _)
       (range-holds (e .a .r) (e .b .r) P _ (at .s)) (k _ (at .t)) far)
+
+-- ---- a point and an edge
+-- both computed ends of a segment lie as far from x, to one side
+module _ (least a b x : Float) (F : isFinite (b ⊖ a) ≡ true) where
+  abbrev gap : Range → Bool
+  gap g = (least ≼ x ⊖ g .hi) || (least ≼ g .lo ⊖ x)
+
+  pub far-over : (least ≼ a ⊖ x) ≡ true → (least ≼ a ⊕ (b ⊖ a) ⊖ x) ≡ true → farApart least (range x x) (rangeOf a b) ≡ true
+  unfolding farApart rangeOf
+  far-over p q = rw F (go (b ⊖ a ≺ 𝟘))
+    where
+      go : (t : Bool) → gap (cond t (range (a ⊕ (b ⊖ a)) a) (range a (a ⊕ (b ⊖ a)))) ≡ true
+      go true = rw q (or-true (least ≼ x ⊖ a))
+      go false = rw p (or-true (least ≼ x ⊖ (a ⊕ (b ⊖ a))))
+
+  pub far-under : (least ≼ x ⊖ a) ≡ true → (least ≼ x ⊖ (a ⊕ (b ⊖ a))) ≡ true → farApart least (range x x) (rangeOf a b) ≡ true
+  unfolding farApart rangeOf
+  far-under p q = rw F (go (b ⊖ a ≺ 𝟘))
+    where
+      go : (t : Bool) → gap (cond t (range (a ⊕ (b ⊖ a)) a) (range a (a ⊕ (b ⊖ a)))) ≡ true
+      go true = rw p
+      go false = rw q
+
+at-itself : (x : Float) → T (fits binary64 x) → Holds (range x x) x
+at-itself x X = record { low = not-below-itself x X; high = not-below-itself x X }
+
+module _ (least : Float) (B : fits binary64 least ≡ true) (p a b : Vertex) where
+  abbrev NotUnder : Vertex → Type 0
+  NotUnder q = (apart p q ≺ least) ≡ false
+
+  far-z : T (fits binary64 (a .z)) → T (fits binary64 (p .z))
+      → farApart least (range (p .z) (p .z)) (rangeOf (a .z) (b .z)) ≡ true
+      → (q : Vertex) → T (fits binary64 (q .z)) → Holds (rangeOf (a .z) (b .z)) (q .z) → NotUnder q
+  far-z A P far q Q h =
+      far-not-less least B _ _ (record { low = P; high = P }) (ends _ (range-ended (a .z) (b .z) A)) _ _ _ P Q
+      (sub-fits binary64 _ _) (at-itself (p .z) P) h far
+
+  far-r : T (fits binary64 (a .r)) → T (fits binary64 (p .r))
+      → farApart least (range (p .r) (p .r)) (rangeOf (a .r) (b .r)) ≡ true
+      → (q : Vertex) → T (fits binary64 (q .r)) → Holds (rangeOf (a .r) (b .r)) (q .r) → NotUnder q
+  far-r A P far q Q h =
+      rw (hypot-comm binary64)
+      (far-not-less least B _ _ (record { low = P; high = P }) (ends _ (range-ended (a .r) (b .r) A)) _ _ _ P Q
+      (sub-fits binary64 _ _) (at-itself (p .r) P) h far)
+
+  pub far-from-z : T (fits binary64 (a .z)) → T (fits binary64 (p .z))
+      → farApart least (range (p .z) (p .z)) (rangeOf (a .z) (b .z)) ≡ true → NotUnder (closestPoint p a b)
+  unfolding closestPoint
+  far-from-z A P far =
+      let d = minus b a in
+      pick NotUnder (dot d d ≼ e-24) (λ h. far-z A P far a A (range-starts (a .z) (b .z) A))
+      (λ h. far-z A P far _ (add-fits binary64 _ _)
+      (range-holds (a .z) (b .z) A _ (clamped-share _ (div-fits binary64 _ _))))
+
+  pub far-from-r : T (fits binary64 (a .r)) → T (fits binary64 (p .r))
+      → farApart least (range (p .r) (p .r)) (rangeOf (a .r) (b .r)) ≡ true → NotUnder (closestPoint p a b)
+  unfolding closestPoint
+  far-from-r A P far =
+      let d = minus b a in
+      pick NotUnder (dot d d ≼ e-24) (λ h. far-r A P far a A (range-starts (a .r) (b .r) A))
+      (λ h. far-r A P far _ (add-fits binary64 _ _)
+      (range-holds (a .r) (b .r) A _ (clamped-share _ (div-fits binary64 _ _))))
 
 -- ---- the four sides of a box: from a to b, at b, from b to a, at a
 module _ (a b : Float) (A : T (fits binary64 a)) (C : T (fits binary64 b)) where

@@ -1,4 +1,6 @@
--- What ranges hold; an edge far along one axis is not nearer; a side that misses leaves no clip.
+-- What ranges hold; an edge far along one axis is not nearer; a side that misses leaves no clip; a search that starts over what
+-- it meets.
 pub mod Ranges
 pub mod FarApart
 pub mod Missed
+pub mod Nearest

@@ -3,10 +3,14 @@
 mod likely;
 mod passed;
 mod range;
+mod search;
 mod shapes;
 
 pub use likely::likely_edge;
+pub use likely::likely_edge_at;
+pub use passed::far_from;
 pub use passed::passed_along;
 pub use range::sides_of;
+pub use search::start_over;
 pub use shapes::Range;
 pub use shapes::Sides;

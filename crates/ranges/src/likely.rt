@@ -1,4 +1,4 @@
-// Which edge is likely the nearest to a box: no answer depends on it.
+// Which edge is likely the nearest to a box, or to a point: no answer depends on it.
 ghost use Prim.Native.Nat.{_<_, _≤_};
 ghost use Rattle.profile.specs.Vertices.{count};
 use profile::Aabb;
@@ -25,6 +25,33 @@ pub fn likely_edge(s: &[f64], x: Aabb) -> usize
     let mut k = 0;
     while k < n {
         let d = rough_gap(vertex_at(s, k), end_at(s, k), x);
+        if d < least {
+            least = d;
+            near = k;
+        }
+        k += 1;
+    }
+    near
+}
+
+// How far a vertex lies from the point, squared and roughly.
+fn rough_apart(a: Vertex, p: Vertex) -> f64 {
+    let dz = a.z - p.z;
+    let dr = a.r - p.r;
+    dz * dz + dr * dr
+}
+
+// The edge that starts at the nearest vertex.
+pub fn likely_edge_at(s: &[f64], p: Vertex) -> usize
+    requires { ⌜ 3 ≤ count (now s) ⌝ }
+    ensures { λ r. ⌜ r < count (now (s .entry)) ⌝ }
+{
+    let n = s.len() / 2;
+    let mut least = arith::infinity();
+    let mut near = 0;
+    let mut k = 0;
+    while k < n {
+        let d = rough_apart(vertex_at(s, k), p);
         if d < least {
             least = d;
             near = k;

@@ -1,6 +1,7 @@
 // Whether an edge may be passed over: along one axis it is neither nearer than the best nor clipped.
 ghost use mathlib.Core.Path.{_≡_};
-ghost use Rattle.ranges.specs.Ranges.{farApart, sideMisses, missesAlong, passedAlong};
+ghost use mathlib.Core.Bool.{true};
+ghost use Rattle.ranges.specs.Ranges.{range, rangeOf, farApart, sideMisses, missesAlong, passedAlong};
 use super::range::range_of;
 use super::shapes::Range;
 
@@ -8,6 +9,26 @@ fn far_apart(least: f64, g: Range, h: Range) -> bool
     ensures { λ r. ⌜ r ≡ farApart least g h ⌝ }
 {
     g.lo - h.hi >= least || h.lo - g.hi >= least
+}
+
+// The points of a segment from a to b lie at least this far from x, along one axis.
+pub fn far_from(least: f64, a: f64, b: f64, x: f64) -> bool
+    ensures { λ r. ⌜ (r ≡ true → farApart least (range x x) (rangeOf a b) ≡ true) ⌝ }
+{
+    let d = b - a;
+    let end = a + d;
+    if a - x >= least {
+        if end - x >= least {
+            return arith::is_finite(d);
+        }
+        return false;
+    }
+    if x - a >= least {
+        if x - end >= least {
+            return arith::is_finite(d);
+        }
+    }
+    false
 }
 
 // This side of the box alone leaves nothing of a segment.

@@ -3,7 +3,7 @@ use mathlib.Core.Path.{_≡_}
 use borrow.Author.Needs.{needs}
 use Rattle.boxes.specs.Boxes.{boxGap}
 use Rattle.boxes.proofs.Held.{edge-held}
-use Rattle.boxes.proofs.Nearest.{met-first}
+use Rattle.ranges.proofs.Nearest.{met-first}
 use Rattle.boxes.proofs.gap.box_gap.Statement.{statement}
 use Rattle.boxes.proofs.gap.box_gap.Tie as tie
 

@@ -2,7 +2,7 @@
 use Rattle.boxes.specs.Boxes.{edgeBox}
 use borrow.Author.Needs.{needs}
 use Rattle.segments.proofs.Held.{segments-held}
-use Rattle.boxes.proofs.Nearest.{nearest-from}
+use Rattle.ranges.proofs.Nearest.{nearest-from}
 use Rattle.boxes.proofs.gap.segment_aabb_distance.Statement.{statement}
 use Rattle.boxes.proofs.gap.segment_aabb_distance.Tie as tie
 

@@ -1,11 +1,11 @@
--- `boxes::gap::start_over` meets its contract: the bar is tested to lie over what was met.
+-- `ranges::search::start_over` meets its contract: the bar is tested to lie over what was met.
 use mathlib.Core.Path.{refl}
 use lib.Ieee.{binary64}
 use lib.Ieee.Fits.{add-fits}
 use Rattle.arith.proofs.Laws.OrderHeld.{T→true}
-use Rattle.boxes.specs.Steps.{at-none, over}
-use Rattle.boxes.proofs.gap.start_over.Statement.{statement}
-use Rattle.boxes.proofs.gap.start_over.Tie as tie
+use Rattle.ranges.specs.Search.{at-none, over}
+use Rattle.ranges.proofs.search.start_over.Statement.{statement}
+use Rattle.ranges.proofs.search.start_over.Tie as tie
 
 returns : tie.Need-returns
 returns c = over (c .if1 .taken) (T→true _ (add-fits binary64 _ _))

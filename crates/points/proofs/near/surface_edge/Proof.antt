@@ -1,7 +1,7 @@
--- `points::points::surface_edge` meets its contract.
+-- `points::near::surface_edge` meets its contract.
 use borrow.Author.Needs.{needs}
-use Rattle.points.proofs.points.surface_edge.Statement.{statement}
-use Rattle.points.proofs.points.surface_edge.Tie as tie
+use Rattle.points.proofs.near.surface_edge.Statement.{statement}
+use Rattle.points.proofs.near.surface_edge.Tie as tie
 
 edge-is-surface-requires : tie.Need-edge-is-surface-requires
 edge-is-surface-requires c κs = search needs

@@ -16,7 +16,7 @@ use Rattle.profile.proofs.Fold.{upto-more}
 use Rattle.profile.proofs.Nearest.{every, none-nearer}
 use Rattle.profile.proofs.Numbers.{Held, NumberHit, infinite, nearest-number}
 use Rattle.profile.proofs.Steps.{pick, upto-keeps}
-use Rattle.boxes.specs.Steps.{StartOver, at-none, over}
+use Rattle.ranges.specs.Search.{StartOver, at-none, over}
 
 -- held against the best one by one, or the nearer of the two first
 regrouped : (best b s : CollisionHit) (p q r : Bool) → (s .distance ≺ b .distance) ≡ p → (b .distance ≺ best .distance) ≡ q

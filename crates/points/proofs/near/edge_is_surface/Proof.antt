@@ -1,7 +1,7 @@
--- `points::points::edge_is_surface` meets its contract.
+-- `points::near::edge_is_surface` meets its contract.
 use borrow.Author.Needs.{needs}
-use Rattle.points.proofs.points.edge_is_surface.Statement.{statement}
-use Rattle.points.proofs.points.edge_is_surface.Tie as tie
+use Rattle.points.proofs.near.edge_is_surface.Statement.{statement}
+use Rattle.points.proofs.near.edge_is_surface.Tie as tie
 
 abs-requires : tie.Need-abs-requires
 abs-requires c κs = search needs

@@ -1,0 +1,48 @@
+-- `points::near::surface_few` meets its contract: a fold.
+use Prim.Native.Nat.{_≤_, _-_}
+use native.Mathlib.Omega.{arith}
+use mathlib.Core.Path.{_≡_, refl}
+use borrow.Author.Needs.{needs}
+use Rattle.profile.specs.Vertices.{upto}
+use Rattle.profile.proofs.Fold.{upto-more, upto-end}
+use Rattle.points.specs.Points.{surfaceStep}
+use Rattle.points.proofs.Surface.{stepped}
+use Rattle.points.proofs.near.surface_few.Statement.{statement}
+use Rattle.points.proofs.near.surface_few.Tie as tie
+
+abbrev Inv-loop : tie.InvT-loop
+Inv-loop s p n best₀ k₀ best k = (k ≤ n) × (best ≡ upto (surfaceStep s p) best₀ k)
+
+abbrev μ-loop : tie.MeasureT-loop
+μ-loop s p n best₀ k₀ best k = n - k
+
+loop-holds : tie.Need-loop-holds Inv-loop μ-loop
+unfolding upto
+loop-holds c = (search needs, refl)
+
+edge-at-requires : tie.Need-edge-at-requires Inv-loop μ-loop
+edge-at-requires c κs = search needs
+
+surface-edge-requires : tie.Need-surface-edge-requires Inv-loop μ-loop
+surface-edge-requires c κs = search needs
+
+add-k : tie.Need-add-k Inv-loop μ-loop
+add-k c = search needs
+
+loop-less : tie.Need-loop-less Inv-loop μ-loop
+loop-less c = search needs
+
+loop-again : tie.Need-loop-again Inv-loop μ-loop
+loop-again c = (
+  search needs,
+  upto-more _ _ _ (c .before .before .before .loop .inv .1)
+      (stepped _ _ _ _ _ (c .before .edge-at .ensures) (c .surface-edge .ensures)),
+)
+
+returns : tie.Need-returns Inv-loop μ-loop
+returns c = upto-end _ _ _ (c .before .loop .inv .1) _ (omega arith)
+
+pub surface-few-spec : {M : Type 1} → statement M
+surface-few-spec =
+    tie.close
+    (tie.spec Inv-loop μ-loop loop-holds edge-at-requires surface-edge-requires add-k loop-less loop-again returns)

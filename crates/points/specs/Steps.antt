@@ -1,0 +1,20 @@
+-- What functions below the entry points promise each other.
+use Prim.Native.Nat.{ℕ}
+use mathlib.Core.Bool.{cond}
+use mathlib.Core.List.{List}
+use lib.Ieee.{Float}
+use Rattle.arith.specs.F64.{∞}
+use Rattle.profile.specs.Vertices.{on, hit, vertexAt, endAt, edgeAt}
+use Rattle.profile.specs.declared.shapes.CollisionHit.{CollisionHit}
+use Rattle.profile.specs.declared.shapes.Vertex.{Vertex}
+use Rattle.segments.specs.Segments.{closest}
+use Rattle.ranges.specs.Search.{FoundFrom}
+use Rattle.points.specs.Points.{edgeIsSurface}
+
+-- the closest point on edge k, or one at +infinity where the edge does not count: it is never taken
+abbrev pub surfaceAt : List Float → Vertex → ℕ → CollisionHit
+surfaceAt s p k = cond (edgeIsSurface (vertexAt s k) (endAt s k)) (closest p (edgeAt s k)) (hit ∞ (on 0 (vertexAt s 0)))
+
+-- the search for the closest point, from one edge up to another
+abbrev pub SurfaceFrom : List Float → Vertex → ℕ → ℕ → CollisionHit → CollisionHit → Type 0
+SurfaceFrom s p = FoundFrom (surfaceAt s p)

@@ -1,0 +1,111 @@
+// The closest point on the section. An edge that along one axis is no nearer than the best so far is passed
+// over, and the edge that is likely the nearest is tried first.
+ghost use mathlib.Core.Path.{_≡_};
+ghost use mathlib.Core.Bool.{true, false, cond};
+ghost use Prim.Native.Nat.{_<_, _≤_};
+ghost use Rattle.arith.specs.F64.{_≺_};
+ghost use Rattle.profile.specs.Vertices.{count, nearer, upto, vertex};
+ghost use Rattle.segments.specs.Segments.{apart, closest, closestPoint};
+ghost use Rattle.points.specs.Points.{edgeIsSurface, surfaceStep, surfaceNear};
+ghost use Rattle.points.specs.Steps.{SurfaceFrom};
+use profile::CollisionHit;
+use profile::Edge;
+use profile::Vertex;
+use profile::edge_at;
+use profile::end_at;
+use profile::nearer_of;
+use profile::on;
+use profile::vertex_at;
+use ranges::far_from;
+use ranges::likely_edge_at;
+use ranges::start_over;
+use segments::point_segment;
+
+// An edge with both ends on the axis is no surface.
+pub fn edge_is_surface(a: Vertex, b: Vertex) -> bool
+    ensures { λ r. ⌜ r ≡ edgeIsSurface a b ⌝ }
+{
+    arith::abs(a.r) > 1e-9 || arith::abs(b.r) > 1e-9
+}
+
+// The edge from a to b is not nearer to (z, r) than this, as one axis alone tells.
+fn passed_over(z: f64, r: f64, a: Vertex, b: Vertex, least: f64) -> bool
+    ensures { λ o. ⌜ (o ≡ true → (apart (vertex z r) (closestPoint (vertex z r) a b) ≺ least) ≡ false) ⌝ }
+{
+    if far_from(least, a.z, b.z, z) {
+        return true;
+    }
+    far_from(least, a.r, b.r, r)
+}
+
+// The edge, if it counts, lowers the distance that best has.
+fn surface_edge(p: Vertex, edge: Edge, best: CollisionHit) -> CollisionHit
+    ensures { λ r. ⌜ r ≡ cond (edgeIsSurface (edge .a) (edge .b)) (nearer best (closest p edge)) best ⌝ }
+{
+    if edge_is_surface(edge.a, edge.b) {
+        return point_segment(p, edge, best);
+    }
+    best
+}
+
+// Edge k may lower it for the point (z, r).
+fn surface_step(s: &[f64], z: f64, r: f64, k: usize, best: CollisionHit) -> CollisionHit
+    requires { ⌜ k < count (now s) ⌝ }
+    ensures { λ o. ⌜ o ≡ surfaceStep (now (s .entry)) (vertex z r) k best ⌝ }
+{
+    if passed_over(z, r, vertex_at(s, k), end_at(s, k), best.distance) {
+        return best;
+    }
+    surface_edge(Vertex { z, r }, edge_at(s, k), best)
+}
+
+// Edges from this one up to that one may lower it.
+fn surface_from(s: &[f64], p: Vertex, from: usize, to: usize, start: CollisionHit) -> CollisionHit
+    requires { ⌜ (from ≤ to) × (to ≤ count (now s)) ⌝ }
+    ensures { λ r. ⌜ SurfaceFrom (now (s .entry)) p from to start r ⌝ }
+{
+    let z = p.z;
+    let r = p.r;
+    let mut best = start;
+    let mut k = from;
+    while k < to {
+        best = surface_step(s, z, r, k, best);
+        k += 1;
+    }
+    best
+}
+
+// All edges in turn: beside few vertices a look at their ranges costs more than it saves.
+fn surface_few(s: &[f64], p: Vertex, none: CollisionHit) -> CollisionHit
+    ensures { λ r. ⌜ (let l = now (s .entry) in r ≡ upto (surfaceStep l p) none (count l)) ⌝ }
+{
+    let n = s.len() / 2;
+    let mut best = none;
+    let mut k = 0;
+    while k < n {
+        best = surface_edge(p, edge_at(s, k), best);
+        k += 1;
+    }
+    best
+}
+
+pub fn surface_near(s: &[f64], p: Vertex) -> CollisionHit
+    requires { ⌜ 3 ≤ count (now s) ⌝ }
+    ensures { λ r. ⌜ r ≡ surfaceNear (now (s .entry)) p ⌝ }
+{
+    let n = s.len() / 2;
+    let none = CollisionHit {
+        distance: arith::infinity(),
+        witness: on(0, vertex_at(s, 0)),
+    };
+    if n < 8 {
+        return surface_few(s, p, none);
+    }
+    let k = likely_edge_at(s, p);
+    let after = k + 1;
+    let first = surface_edge(p, edge_at(s, k), none);
+    let start = start_over(first, none);
+    let before = surface_from(s, p, 0, k, start);
+    let best = nearer_of(before, first);
+    surface_from(s, p, after, n, best)
+}
