@@ -46,14 +46,15 @@
  *            which is 8,192 where a call takes no settings; a convex body is one for each of its edges; a pair measures twice, an
  *            assembly each body, a move steps + 1 times.
  *            A walk of 8,192 boxes beside 256 edges took 25 ms on a 2-core virtual machine, a box beside them 0.004 ms, a point
- *            0.002 ms. Most edges are passed over there; where few can be, as far as we have seen, it is up to ten times that:
- *            0.1 us a box and edge. bindings/c/costs.c measures both on yours
+ *            0.002 ms. Most edges are passed over there. Measured one and all, they took 160 to 310 ms, 0.1 us a box and edge:
+ *            reckon with that for a section of which few can be. bindings/c/costs.c measures both on yours
  *
  * ---- The order of the tests
  * 1 2 3 4 5 18 6 7 8 9 10 11, of which a call makes those that it names, each over all lists and numbers that it is given. So 18
  * stands between 5 and 6. 4 and 5 do not look at the settings: a tolerance of NaN is 18. A call with another order says so.
  *
- * jorghipa_records.h has the queries of a point, sphere, box and cylinder over an array of vertices.
+ * jorghipa_records.h has the queries of a point, sphere, box and cylinder over an array of vertices, jorghipa_vertices.h the other
+ * calls.
  */
 #ifndef JORGHIPA_H
 #define JORGHIPA_H
