@@ -3,9 +3,8 @@ ghost use mathlib.Core.Path.{_≡_};
 ghost use mathlib.Core.Bool.{cond};
 ghost use lib.Ieee.{neg};
 ghost use Rattle.arith.specs.F64.{_≼_};
-ghost use Rattle.arith.specs.Num.{min, clamp};
 ghost use Rattle.bands.specs.Band as band;
-ghost use Rattle.bands.specs.Band.{axialBox, bandOf, halfWidth, radiusSpan, span, spanAt, closestToZero};
+ghost use Rattle.bands.specs.Band.{axialBox, bandOf, halfWidth, radiusSpan, spanAt, closestToZero};
 use super::shapes::Cylinder;
 use super::shapes::RadialBand;
 use super::shapes::Span;
@@ -107,7 +106,7 @@ impl RadialBand {
         }
     }
 
-    fn rho_at(self, z: f64) -> f64
+    pub fn rho_at(self, z: f64) -> f64
         ensures { λ r. ⌜ r ≡ halfWidth self z ⌝ }
     {
         let dz = z - self.zc;
@@ -117,17 +116,6 @@ impl RadialBand {
         } else {
             arith::sqrt(value)
         }
-    }
-
-    // The least and the greatest half width from za to zb.
-    pub fn rho_bounds(self, za: f64, zb: f64) -> Span
-        ensures { λ r. ⌜
-            r ≡ span (min (halfWidth self za) (halfWidth self zb)) (halfWidth self (clamp (self .zc) za zb))
-            ⌝ }
-    {
-        let hi = self.rho_at(arith::clamp(self.zc, za, zb));
-        let lo = arith::min(self.rho_at(za), self.rho_at(zb));
-        Span { lo, hi }
     }
 
     pub fn span_at_rho(self, rho: f64) -> Span

@@ -4,4 +4,5 @@ pub mod Demand
 pub mod Exact
 pub mod Sixteenths
 pub mod Stored
+pub mod KnownEnds
 pub mod Loop

@@ -1,4 +1,5 @@
 // The walk over the pieces of a cylinder across the spindle.
+mod ends;
 mod pieces;
 mod samples;
 mod shapes;

@@ -1,10 +1,10 @@
-// A piece of the cylinder's width: the two spans that its box and its variation share.
+// A piece of the cylinder's width: its box and its variation.
 ghost use mathlib.Core.Path.{_≡_};
-ghost use Prim.Native.Nat.{_≤_};
-ghost use Rattle.profile.specs.Vertices.{count};
 ghost use Rattle.walk.specs.Pieces as pieces;
-ghost use Rattle.walk.specs.Pieces.{spansOf, boxOf, variationOf};
-ghost use Rattle.walk.specs.Steps.{measure};
+ghost use Rattle.walk.specs.Pieces.{boxOf, variationOf};
+ghost use Rattle.walk.specs.Steps.{measure, Measurable};
+use super::ends::spans_of;
+use super::shapes::Ends;
 use super::shapes::Measured;
 use super::shapes::Piece;
 use super::shapes::Spans;
@@ -19,15 +19,6 @@ pub fn whole_width(b: RadialBand) -> Piece
         z0: b.zc - b.radius,
         z1: b.zc + b.radius,
     }
-}
-
-fn spans_of(b: RadialBand, p: Piece) -> Spans
-    ensures { λ r. ⌜ r ≡ spansOf b p ⌝ }
-{
-    let rho = b.rho_bounds(p.z0, p.z1);
-    let widest = b.span_at_rho(rho.hi);
-    let narrowest = b.span_at_rho(rho.lo);
-    Spans { widest, narrowest }
 }
 
 fn box_of(p: Piece, spans: Spans) -> Aabb
@@ -54,11 +45,11 @@ fn variation_of(spans: Spans) -> f64
 }
 
 // The distance of the piece's box, and the piece's variation.
-pub fn measure(s: &[f64], b: RadialBand, p: Piece) -> Measured
-    requires { ⌜ 3 ≤ count (now s) ⌝ }
+pub fn measure(s: &[f64], b: RadialBand, p: Piece, ends: Ends) -> Measured
+    requires { ⌜ Measurable (now s) b p ends ⌝ }
     ensures { λ r. ⌜ r ≡ measure (now (s .entry)) b p ⌝ }
 {
-    let spans = spans_of(b, p);
+    let spans = spans_of(b, p, ends);
     let hit = box_distance(s, box_of(p, spans));
     Measured {
         hit,

@@ -14,6 +14,19 @@ pub struct Spans {
     pub narrowest: Span,
 }
 
+// Half width and span at one z.
+pub struct Cross {
+    pub rho: f64,
+    pub span: Span,
+}
+
+// Half width and span at a piece's two ends, and at the axis.
+pub struct Ends {
+    pub left: Cross,
+    pub right: Cross,
+    pub middle: Cross,
+}
+
 // The distance of a piece's box, and the piece's variation.
 pub struct Measured {
     pub hit: CollisionHit,

@@ -7,6 +7,8 @@ ghost use Rattle.profile.specs.Vertices.{count, hit};
 ghost use Rattle.boxes.specs.Boxes.{boxDistance};
 ghost use Rattle.walk.specs.Walk as walk;
 ghost use Rattle.walk.specs.Steps.{Walkable, WalkableWith};
+use super::ends::ends_of;
+use super::ends::next_ends;
 use super::pieces::measure;
 use super::pieces::whole_width;
 use super::samples::sampled;
@@ -88,7 +90,10 @@ fn walk_with(s: &[f64], b: RadialBand, tol: f64, cap: usize, intervals: usize) -
     ensures { λ r. ⌜ r ≡ walk.walked (walk.walkAll (now (s .entry)) b tol cap intervals) ⌝ }
 {
     let mut waiting = [0.0; 108];
-    let mut n = push(&mut waiting, 0, whole_width(b));
+    let whole = whole_width(b);
+    let mut n = push(&mut waiting, 0, whole);
+    let mut lefts = [0.0; 162];
+    let mut ends = ends_of(b, whole);
     let mut best = sampled(s, b, intervals);
     let mut least = arith::infinity();
     let mut boxes: usize = 0;
@@ -102,8 +107,10 @@ fn walk_with(s: &[f64], b: RadialBand, tol: f64, cap: usize, intervals: usize) -
         let z0 = waiting[at];
         let z1 = waiting[at + 1];
         let p = Piece { z0, z1 };
-        let m = measure(s, b, p);
-        n = push_halves(&mut waiting, last, p, halved(tol, m, best, p));
+        let m = measure(s, b, p, ends);
+        let halve = halved(tol, m, best, p);
+        n = push_halves(&mut waiting, last, p, halve);
+        ends = next_ends(&mut lefts, last, b, p, ends, halve);
         best = better(m, best);
         least = arith::min(least, m.hit.distance);
         boxes += 1;

@@ -1,23 +1,29 @@
 -- `walk::walk::walk_with`. Array and locals are a state of the definition's walk, from start to end.
 use Prim.Native.Nat.{_-_}
 use native.Mathlib.Omega.{arith}
+use mathlib.Core.Path.{refl}
 use Rattle.walk.proofs.Loop.{State, begun, ended, cut-short, has-box, has-room, turned}
+use Rattle.walk.proofs.KnownEnds.{Held, held-first, taken, held-next}
 use borrow.Author.Needs.{needs}
 use Rattle.walk.proofs.walk.walk_with.Statement.{statement}
 use Rattle.walk.proofs.walk.walk_with.Tie as tie
 
 abbrev Inv-loop : tie.InvT-loop
-Inv-loop s b tol cap intervals waiting₀ n₀ best₀ least₀ boxes₀ most₀ waiting n best least boxes most =
-    State s b tol cap intervals waiting n boxes most least best
+Inv-loop s b tol cap intervals waiting₀ n₀ lefts₀ ends₀ best₀ least₀ boxes₀ most₀ waiting n lefts ends best least boxes most =
+    State s b tol cap intervals waiting n boxes most least best × Held b lefts ends waiting n
 
 abbrev μ-loop : tie.MeasureT-loop
-μ-loop s b tol cap intervals waiting₀ n₀ best₀ least₀ boxes₀ most₀ waiting n best least boxes most = cap - boxes
+μ-loop s b tol cap intervals waiting₀ n₀ lefts₀ ends₀ best₀ least₀ boxes₀ most₀ waiting n lefts ends best least boxes most =
+    cap - boxes
 
 whole-width-requires : tie.Need-whole-width-requires Inv-loop μ-loop
 whole-width-requires c κs = search needs
 
 push-requires : tie.Need-push-requires Inv-loop μ-loop
 push-requires c κs = search needs
+
+ends-of-requires : tie.Need-ends-of-requires Inv-loop μ-loop
+ends-of-requires c κs = search needs
 
 sampled-requires : tie.Need-sampled-requires Inv-loop μ-loop
 sampled-requires c κs = search needs
@@ -27,8 +33,11 @@ infinity-requires c κs = search needs
 
 loop-holds : tie.Need-loop-holds Inv-loop μ-loop
 loop-holds c =
-    begun _ (c .before .before .push .ensures) (c .before .before .before .whole-width .ensures)
-    (c .before .sampled .ensures) (c .infinity .ensures)
+    let pushed = c .before .before .before .push .ensures in
+    let whole = c .before .before .before .before .before .whole-width .ensures in (
+      begun _ pushed whole (c .before .sampled .ensures) (c .infinity .ensures),
+      held-first _ refl pushed (c .before .before .ends-of .ensures),
+    )
 
 cut-off-requires : tie.Need-cut-off-requires Inv-loop μ-loop
 cut-off-requires c κs = search needs
@@ -36,7 +45,8 @@ cut-off-requires c κs = search needs
 returns : tie.Need-returns Inv-loop μ-loop
 returns c =
     let test = c .before in
-    cut-short (test .before .before .loop .inv) (test .before .loop-test .taken) (test .if1 .taken) (c .cut-off .ensures)
+    let state = test .before .before .loop .inv .0 in
+    cut-short state (test .before .loop-test .taken) (test .if1 .taken) (c .cut-off .ensures)
 
 sub-last : tie.Need-sub-last Inv-loop μ-loop
 sub-last c = search needs
@@ -60,7 +70,10 @@ array-read-z1 : tie.Need-array-read-z1 Inv-loop μ-loop
 array-read-z1 c = search needs
 
 measure-requires : tie.Need-measure-requires Inv-loop μ-loop
-measure-requires c κs = search needs
+measure-requires c κs =
+    let looped = c .before .before in
+    let start = looped .before .before .before .before .before .before .before .before in
+    record { vertices = start .pre .vertices; known = taken (looped .loop .inv .1) (c .before .loop-test .taken) }
 
 halved-requires : tie.Need-halved-requires Inv-loop μ-loop
 halved-requires c κs = search needs
@@ -69,15 +82,21 @@ push-halves-requires : tie.Need-push-halves-requires Inv-loop μ-loop
 push-halves-requires c κs =
     let test = c .before .before .before in
     let looped = test .before .before in
-    let start = looped .before .before .before .before .before .before .before in
-    let state = looped .loop .inv in
+    let start = looped .before .before .before .before .before .before .before .before in
+    let state = looped .loop .inv .0 in
     let left = has-box state (test .if1 .left) in
     let measured = c .before .before .measure .ensures in
     record {
       few = omega (arith, state .few);
-      both = has-room state (test .before .loop-test .taken) left measured (c .halved .ensures) (start .pre .room);
+      both = has-room state (test .before .loop-test .taken) left measured (c .before .halved .ensures) (start .pre .room);
       stored = state .stored;
     }
+
+next-ends-requires : tie.Need-next-ends-requires Inv-loop μ-loop
+next-ends-requires c κs =
+    let looped = c .before .before .before .before .before .before .before in
+    let some = c .before .before .before .before .before .before .loop-test .taken in
+    (omega (arith, looped .loop .inv .0 .few, some), looped .loop .inv .1 .stored)
 
 better-requires : tie.Need-better-requires Inv-loop μ-loop
 better-requires c κs = search needs
@@ -87,32 +106,35 @@ min-requires c κs = search needs
 
 add-boxes : tie.Need-add-boxes Inv-loop μ-loop
 add-boxes c =
-    let test = c .before .before .before .before .before .before in
+    let test = c .before .before .before .before .before .before .before .before in
     let looped = test .before .before in
-    let start = looped .before .before .before .before .before .before .before in
-    omega (arith, has-box (looped .loop .inv) (test .if1 .left), start .fits .cap)
+    let start = looped .before .before .before .before .before .before .before .before in
+    omega (arith, has-box (looped .loop .inv .0) (test .if1 .left), start .fits .cap)
 
 larger-requires : tie.Need-larger-requires Inv-loop μ-loop
 larger-requires c κs = search needs
 
 loop-less : tie.Need-loop-less Inv-loop μ-loop
 loop-less c =
-    let test = c .before .before .before .before .before .before .before in
-    omega (arith, has-box (test .before .before .loop .inv) (test .if1 .left))
+    let test = c .before .before .before .before .before .before .before .before .before in
+    omega (arith, has-box (test .before .before .loop .inv .0) (test .if1 .left))
 
 loop-again : tie.Need-loop-again Inv-loop μ-loop
 loop-again c =
-    let test = c .before .before .before .before .before .before .before in
-    let state = test .before .before .loop .inv in
+    let test = c .before .before .before .before .before .before .before .before .before in
+    let state = test .before .before .loop .inv .0 in
+    let held = test .before .before .loop .inv .1 in
+    let some = test .before .loop-test .taken in
     let left = has-box state (test .if1 .left) in
-    let measured = c .before .before .before .before .before .before .measure .ensures in
-    let halved = c .before .before .before .before .halved .ensures in
-    let pushed = c .before .before .before .push-halves .ensures in
-    rw (c .larger .ensures, c .before .min .ensures, c .before .before .better .ensures)
-    (turned state (test .before .loop-test .taken) left measured halved pushed)
+    let measured = c .before .before .before .before .before .before .before .before .measure .ensures in
+    let pushed = c .before .before .before .before .before .push-halves .ensures in (
+      rw (c .larger .ensures, c .before .min .ensures, c .before .before .better .ensures)
+          (turned state some left measured (c .before .before .before .before .before .before .before .halved .ensures) pushed),
+      held-next held some (c .before .before .before .next-ends .ensures) pushed,
+    )
 
 returns-2 : tie.Need-returns-2 Inv-loop μ-loop
-returns-2 c = ended (c .before .loop .inv) (c .loop-test .left)
+returns-2 c = ended (c .before .loop .inv .0) (c .loop-test .left)
 
 pub walk-with-spec : {M : Type 1} → statement M
 walk-with-spec =
@@ -122,6 +144,7 @@ walk-with-spec =
     μ-loop
     whole-width-requires
     push-requires
+    ends-of-requires
     sampled-requires
     infinity-requires
     loop-holds
@@ -137,6 +160,7 @@ walk-with-spec =
     measure-requires
     halved-requires
     push-halves-requires
+    next-ends-requires
     better-requires
     min-requires
     add-boxes
