@@ -2,5 +2,6 @@
 pub mod Numbers
 pub mod Asked
 pub mod Edges
+pub mod Inside
 pub mod Outside
 pub mod Surface

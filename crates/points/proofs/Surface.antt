@@ -19,7 +19,7 @@ use Rattle.segments.proofs.Held.{closest-held}
 use Rattle.ranges.specs.Search.{StartOver}
 use Rattle.ranges.proofs.Nearest.{met-first}
 use Rattle.points.specs.Points.{edgeIsSurface, surfaceNear, surfaceStep}
-use Rattle.points.specs.Steps.{surfaceAt, SurfaceFrom}
+use Rattle.points.specs.Steps.{noEdge, surfaceAt, SurfaceFrom}
 
 kept : (t : Bool) (best : CollisionHit) → best ≡ cond t best best
 kept true best = refl
@@ -59,7 +59,7 @@ module _ (s : List Float) (p : Vertex) where
   unfolding surfaceStep
   stepped k best r {e} i f = subst (λ (x : Edge). r ≡ cond (edgeIsSurface (x .a) (x .b)) (nearer best (closest p x)) best) i f
 
-  module _ (none : CollisionHit) (i : none ≡ hit ∞ (on 0 (vertexAt s 0))) where
+  module _ (none : CollisionHit) (i : none ≡ noEdge s) where
     -- all edges in turn
     pub surface-in-turn : {r : CollisionHit} → r ≡ upto (surfaceStep s p) none (count s) → r ≡ surfaceNear s p
     unfolding surfaceNear
@@ -67,9 +67,10 @@ module _ (s : List Float) (p : Vertex) where
 
     -- edge k is met first
     pub surface-met-first : (k : ℕ) → k < count s → (first start : CollisionHit) {before best r : CollisionHit}
-        → first ≡ surfaceStep s p k none → StartOver first none start → SurfaceFrom s p 0 k start before
+        → first ≡ surfaceStep s p k (noEdge s) → StartOver first none start → SurfaceFrom s p 0 k start before
         → best ≡ nearer before first → SurfaceFrom s p (k + 1) (count s) best r → r ≡ surfaceNear s p
     unfolding surfaceNear
     surface-met-first k l first start f o b n g =
-        met-first (surfaceAt s p) at-held _ k (count s) l none first start i (f ∙ step-at k none) o b n g
+        met-first (surfaceAt s p) at-held _ k (count s) l none first start i
+        (f ∙ step-at k (noEdge s) ∙ ap (λ (h : CollisionHit). nearer h (surfaceAt s p k)) (sym i)) o b n g
         ∙ sym (steps-at (hit ∞ (on 0 (vertexAt s 0))) (count s))

@@ -11,6 +11,10 @@ use Rattle.segments.specs.Segments.{closest}
 use Rattle.ranges.specs.Search.{FoundFrom}
 use Rattle.points.specs.Points.{edgeIsSurface}
 
+-- where no edge counts: +infinity, the first vertex and edge 0
+abbrev pub noEdge : List Float → CollisionHit
+noEdge s = hit ∞ (on 0 (vertexAt s 0))
+
 -- the closest point on edge k, or one at +infinity where the edge does not count: it is never taken
 abbrev pub surfaceAt : List Float → Vertex → ℕ → CollisionHit
 surfaceAt s p k = cond (edgeIsSurface (vertexAt s k) (endAt s k)) (closest p (edgeAt s k)) (hit ∞ (on 0 (vertexAt s 0)))

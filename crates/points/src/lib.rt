@@ -4,6 +4,7 @@ mod overlap;
 mod points;
 
 pub use overlap::deeper_at;
+pub use overlap::deeper_inside;
 pub use overlap::result_of;
 pub use points::crosses;
 pub use points::meridian;

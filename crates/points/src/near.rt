@@ -7,7 +7,7 @@ ghost use Rattle.arith.specs.F64.{_≺_};
 ghost use Rattle.profile.specs.Vertices.{count, nearer, upto, vertex};
 ghost use Rattle.segments.specs.Segments.{apart, closest, closestPoint};
 ghost use Rattle.points.specs.Points.{edgeIsSurface, surfaceStep, surfaceNear};
-ghost use Rattle.points.specs.Steps.{SurfaceFrom};
+ghost use Rattle.points.specs.Steps.{noEdge, SurfaceFrom};
 use profile::CollisionHit;
 use profile::Edge;
 use profile::Vertex;
@@ -89,23 +89,46 @@ fn surface_few(s: &[f64], p: Vertex, none: CollisionHit) -> CollisionHit
     best
 }
 
+// No edge counts.
+fn no_edge(s: &[f64]) -> CollisionHit
+    requires { ⌜ 0 < count (now s) ⌝ }
+    ensures { λ r. ⌜ r ≡ noEdge (now (s .entry)) ⌝ }
+{
+    CollisionHit {
+        distance: arith::infinity(),
+        witness: on(0, vertex_at(s, 0)),
+    }
+}
+
+// Edge k alone.
+pub fn surface_first(s: &[f64], p: Vertex, k: usize) -> CollisionHit
+    requires { ⌜ k < count (now s) ⌝ }
+    ensures { λ r. ⌜ r ≡ surfaceStep (now (s .entry)) p k (noEdge (now (s .entry))) ⌝ }
+{
+    surface_edge(p, edge_at(s, k), no_edge(s))
+}
+
+// All edges, of which edge k has been tried.
+pub fn surface_rest(s: &[f64], p: Vertex, k: usize, first: CollisionHit) -> CollisionHit
+    requires { ⌜ (k < count (now s)) × (first ≡ surfaceStep (now s) p k (noEdge (now s))) ⌝ }
+    ensures { λ r. ⌜ r ≡ surfaceNear (now (s .entry)) p ⌝ }
+{
+    let n = s.len() / 2;
+    let after = k + 1;
+    let start = start_over(first, no_edge(s));
+    let before = surface_from(s, p, 0, k, start);
+    let best = nearer_of(before, first);
+    surface_from(s, p, after, n, best)
+}
+
 pub fn surface_near(s: &[f64], p: Vertex) -> CollisionHit
     requires { ⌜ 3 ≤ count (now s) ⌝ }
     ensures { λ r. ⌜ r ≡ surfaceNear (now (s .entry)) p ⌝ }
 {
     let n = s.len() / 2;
-    let none = CollisionHit {
-        distance: arith::infinity(),
-        witness: on(0, vertex_at(s, 0)),
-    };
     if n < 8 {
-        return surface_few(s, p, none);
+        return surface_few(s, p, no_edge(s));
     }
     let k = likely_edge_at(s, p);
-    let after = k + 1;
-    let first = surface_edge(p, edge_at(s, k), none);
-    let start = start_over(first, none);
-    let before = surface_from(s, p, 0, k, start);
-    let best = nearer_of(before, first);
-    surface_from(s, p, after, n, best)
+    surface_rest(s, p, k, surface_first(s, p, k))
 }

@@ -1,16 +1,48 @@
 // What boxes and convex bodies share: the depth at a probe, and the result.
 ghost use mathlib.Core.Path.{_≡_};
+ghost use mathlib.Core.Bool.{true};
 ghost use Prim.Native.Nat.{_≤_};
+ghost use Rattle.arith.specs.F64.{_≼_, 𝟘};
 ghost use Rattle.profile.specs.Vertices.{count, nearer};
-ghost use Rattle.points.specs.Points.{pointDistance};
+ghost use Rattle.points.specs.Points.{inSection, pointDistance};
 ghost use Rattle.points.specs.Overlap.{resultOf};
+use super::near::surface_first;
+use super::near::surface_rest;
 use super::points::in_section;
 use super::points::signed_distance_2d;
 use profile::CollisionHit;
 use profile::Vertex;
 use profile::nearer_of;
+use ranges::likely_edge_at;
 use segments::BOUNDARY;
 use segments::INTERIOR;
+
+// The section may be deeper at p, which lies inside. It is not where one edge is as near as the best is
+// deep: the likeliest is tried first.
+pub fn deeper_inside(s: &[f64], p: Vertex, best: CollisionHit) -> CollisionHit
+    requires { ⌜ (3 ≤ count (now s)) × (inSection (now s) p ≡ true) × ((best .distance ≼ 𝟘) ≡ true) ⌝ }
+    ensures { λ r. ⌜ r ≡ nearer best (pointDistance (now (s .entry)) p) ⌝ }
+{
+    let k = likely_edge_at(s, p);
+    let first = surface_first(s, p, k);
+    if first.distance <= -best.distance {
+        return best;
+    }
+    let near = surface_rest(s, p, k, first);
+    let depth = near.distance;
+    let witness = near.witness;
+    if arith::is_finite(depth) {
+        if depth <= BOUNDARY {
+            return best;
+        }
+        let new = CollisionHit {
+            distance: -depth,
+            witness,
+        };
+        return nearer_of(best, new);
+    }
+    best
+}
 
 // The section may be deeper at p. Outside it is not below 0, and needs no distance.
 pub fn deeper_at(s: &[f64], p: Vertex, best: CollisionHit) -> CollisionHit
@@ -18,9 +50,10 @@ pub fn deeper_at(s: &[f64], p: Vertex, best: CollisionHit) -> CollisionHit
     ensures { λ r. ⌜ r ≡ nearer best (pointDistance (now (s .entry)) p) ⌝ }
 {
     if best.distance <= 0.0 {
-        if !in_section(s, p) {
-            return best;
+        if in_section(s, p) {
+            return deeper_inside(s, p, best);
         }
+        return best;
     }
     nearer_of(best, signed_distance_2d(s, p))
 }

@@ -1,6 +1,6 @@
--- The even-odd rule at five probes: before the first edge, one edge more, and at the end; and what it tells off the axis.
+-- The even-odd rule at five probes: before the first edge, one edge more, and at the end; and what it tells of the section.
 use Prim.Native.Nat.{ℕ, _+_}
-use mathlib.Core.Bool.{false}
+use mathlib.Core.Bool.{true, false}
 use mathlib.Core.List.{List}
 use mathlib.Core.Path.{_≡_, refl, subst}
 use lib.Ieee.{Float}
@@ -29,6 +29,10 @@ module _ (s : List Float) (at : Probes) where
 
   pub at-last : {odd : Odd} (k n : ℕ) → k ≡ n → OddProbes s at k odd → OddProbes s at n odd
   at-last {odd} k n e h = subst (λ (m : ℕ). OddProbes s at m odd) e h
+
+pub odd-inside : (s : List Float) (p : Vertex) → pointInside s p ≡ true → inSection s p ≡ true
+unfolding inSection
+odd-inside s p e = rw e refl
 
 pub off-axis : (s : List Float) (p : Vertex) → pointInside s p ≡ false → (p .r ≼ e-8) ≡ false → inSection s p ≡ false
 unfolding inSection

@@ -9,6 +9,7 @@ use super::shapes::Odd;
 use super::shapes::Probes;
 use points::crosses;
 use points::deeper_at;
+use points::deeper_inside;
 use profile::CollisionHit;
 use profile::Edge;
 use profile::Vertex;
@@ -65,14 +66,13 @@ pub fn deeper_probe(s: &[f64], p: Vertex, odd: bool, best: CollisionHit) -> Coll
     requires { ⌜ (3 ≤ count (now s)) × (odd ≡ pointInside (now s) p) ⌝ }
     ensures { λ r. ⌜ r ≡ nearer best (pointDistance (now (s .entry)) p) ⌝ }
 {
-    if odd {
-        return deeper_at(s, p, best);
-    }
-    if p.r <= 1e-8 {
-        return deeper_at(s, p, best);
-    }
     if best.distance <= 0.0 {
-        return best;
+        if odd {
+            return deeper_inside(s, p, best);
+        }
+        if !(p.r <= 1e-8) {
+            return best;
+        }
     }
     deeper_at(s, p, best)
 }

@@ -1,45 +1,32 @@
 -- `probes::probes::deeper_probe` meets its contract: what lies outside is not below 0.
 use mathlib.Core.Path.{sym, _∙_}
 use borrow.Author.Needs.{needs}
+use borrow.Author.Tests.{not-true}
 use Rattle.points.proofs.Outside.{point-outside}
-use Rattle.probes.proofs.Parity.{off-axis}
+use Rattle.probes.proofs.Parity.{odd-inside, off-axis}
 use Rattle.probes.proofs.probes.deeper_probe.Statement.{statement}
 use Rattle.probes.proofs.probes.deeper_probe.Tie as tie
+
+deeper-inside-requires : tie.Need-deeper-inside-requires
+deeper-inside-requires c κs =
+    let start = c .before .before .before .before in
+    (start .pre .0, odd-inside _ _ (sym (start .pre .1) ∙ c .if2 .taken), c .before .if1 .taken)
+
+returns : tie.Need-returns
+returns c = c .deeper-inside .ensures
+
+returns-2 : tie.Need-returns-2
+returns-2 c =
+    let start = c .before .before .before .before .before .before in
+    let outside = off-axis _ _ (sym (start .pre .1) ∙ c .before .before .if2 .left) (not-true _ (c .if3 .taken)) in
+    rw (point-outside _ (c .before .before .before .if1 .taken) _ _ outside)
 
 deeper-at-requires : tie.Need-deeper-at-requires
 deeper-at-requires c κs = search needs
 
-returns : tie.Need-returns
-returns c = c .deeper-at .ensures
-
-deeper-at-requires-2 : tie.Need-deeper-at-requires-2
-deeper-at-requires-2 c κs = search needs
-
-returns-2 : tie.Need-returns-2
-returns-2 c = c .deeper-at2 .ensures
-
 returns-3 : tie.Need-returns-3
-returns-3 c =
-    rw (
-    point-outside _ (c .if3 .taken) _ _
-    (off-axis _ _ (sym (c .before .before .before .before .before .before .pre .1) ∙ c .before .before .before .before .if1 .left)
-    (c .before .before .if2 .left))
-    )
-
-deeper-at-requires-3 : tie.Need-deeper-at-requires-3
-deeper-at-requires-3 c κs = search needs
-
-returns-4 : tie.Need-returns-4
-returns-4 c = c .deeper-at3 .ensures
+returns-3 c = c .deeper-at .ensures
 
 pub deeper-probe-spec : {M : Type 1} → statement M
 deeper-probe-spec =
-    tie.close
-    (tie.spec
-    deeper-at-requires
-    returns
-    deeper-at-requires-2
-    returns-2
-    returns-3
-    deeper-at-requires-3
-    returns-4)
+    tie.close (tie.spec deeper-inside-requires returns returns-2 deeper-at-requires returns-3)

@@ -1,0 +1,42 @@
+-- `points::near::surface_rest` meets its contract: a search that starts over what it meets anyway finds the same.
+use borrow.Author.Needs.{needs}
+use Rattle.points.proofs.Surface.{surface-met-first}
+use Rattle.points.proofs.near.surface_rest.Statement.{statement}
+use Rattle.points.proofs.near.surface_rest.Tie as tie
+
+add-after : tie.Need-add-after
+add-after c = search needs
+
+no-edge-requires : tie.Need-no-edge-requires
+no-edge-requires c κs = search needs
+
+start-over-requires : tie.Need-start-over-requires
+start-over-requires c κs = search needs
+
+surface-from-requires : tie.Need-surface-from-requires
+surface-from-requires c κs = search needs
+
+nearer-of-requires : tie.Need-nearer-of-requires
+nearer-of-requires c κs = search needs
+
+surface-from-requires-2 : tie.Need-surface-from-requires-2
+surface-from-requires-2 c κs = search needs
+
+returns : tie.Need-returns
+returns c =
+    let start = c .before .before .before .before .before .before in
+    surface-met-first _ _ _ (c .before .before .before .before .no-edge .ensures) _ (start .pre .0) _ _ (start .pre .1)
+    (c .before .before .before .start-over .ensures) (c .before .before .surface-from .ensures)
+    (c .before .nearer-of .ensures) (c .surface-from2 .ensures)
+
+pub surface-rest-spec : {M : Type 1} → statement M
+surface-rest-spec =
+    tie.close
+    (tie.spec
+    add-after
+    no-edge-requires
+    start-over-requires
+    surface-from-requires
+    nearer-of-requires
+    surface-from-requires-2
+    returns)
