@@ -5,8 +5,12 @@ ghost use lib.Ieee.{unlike};
 ghost use Rattle.profile.specs.Vertices.{count, vertexAt, endAt, edgeAt, nearer};
 ghost use Rattle.points.specs.Points.{crosses, pointInside, pointDistance};
 ghost use Rattle.probes.specs.Probes.{OddNext, OddProbes};
+ghost use Rattle.probes.specs.Radii.{Reaches};
+use super::reach::reach_of;
+use super::reach::unparted;
 use super::shapes::Odd;
 use super::shapes::Probes;
+use super::shapes::Reach;
 use points::crosses;
 use points::deeper_at;
 use points::deeper_inside;
@@ -14,6 +18,8 @@ use profile::CollisionHit;
 use profile::Edge;
 use profile::Vertex;
 use profile::edge_at;
+use profile::end_at;
+use profile::vertex_at;
 
 fn odd_after(p: Vertex, edge: Edge, odd: bool) -> bool
     ensures { λ r. ⌜ r ≡ unlike odd (crosses p (edge .a) (edge .b)) ⌝ }
@@ -34,10 +40,16 @@ fn odd_next(edge: Edge, at: Probes, odd: Odd) -> Odd
     }
 }
 
-fn odd_at(s: &[f64], at: Probes, k: usize, odd: Odd) -> Odd
-    requires { ⌜ k < count (now s) ⌝ }
+// Edge k more. One that no probe's radius parts is passed over.
+fn odd_at(s: &[f64], at: Probes, reach: Reach, k: usize, odd: Odd) -> Odd
+    requires { ⌜ (k < count (now s)) × Reaches at reach ⌝ }
     ensures { λ r. ⌜ OddNext at (edgeAt (now (s .entry)) k) odd r ⌝ }
 {
+    let a = vertex_at(s, k);
+    let b = end_at(s, k);
+    if unparted(reach, a.r, b.r) {
+        return odd;
+    }
     odd_next(edge_at(s, k), at, odd)
 }
 
@@ -45,6 +57,7 @@ pub fn odd_probes(s: &[f64], at: Probes) -> Odd
     ensures { λ r. ⌜ OddProbes (now (s .entry)) at (count (now (s .entry))) r ⌝ }
 {
     let n = s.len() / 2;
+    let reach = reach_of(at);
     let mut odd = Odd {
         centre: false,
         c00: false,
@@ -54,7 +67,7 @@ pub fn odd_probes(s: &[f64], at: Probes) -> Odd
     };
     let mut k = 0;
     while k < n {
-        odd = odd_at(s, at, k, odd);
+        odd = odd_at(s, at, reach, k, odd);
         k += 1;
     }
     odd

@@ -18,3 +18,9 @@ pub struct Odd {
     pub c11: bool,
     pub c01: bool,
 }
+
+// The least and the greatest radius of the probes, or -infinity and +infinity where they are not in order.
+pub struct Reach {
+    pub lo: f64,
+    pub hi: f64,
+}

@@ -8,10 +8,13 @@ use Rattle.probes.proofs.probes.odd_probes.Statement.{statement}
 use Rattle.probes.proofs.probes.odd_probes.Tie as tie
 
 abbrev Inv-loop : tie.InvT-loop
-Inv-loop s at n odd₀ k₀ odd k = (k ≤ n) × OddProbes s at k odd
+Inv-loop s at n reach odd₀ k₀ odd k = (k ≤ n) × OddProbes s at k odd
 
 abbrev μ-loop : tie.MeasureT-loop
-μ-loop s at n odd₀ k₀ odd k = n - k
+μ-loop s at n reach odd₀ k₀ odd k = n - k
+
+reach-of-requires : tie.Need-reach-of-requires Inv-loop μ-loop
+reach-of-requires c κs = search needs
 
 loop-holds : tie.Need-loop-holds Inv-loop μ-loop
 loop-holds c = (search needs, at-first _ _)
@@ -32,4 +35,6 @@ returns : tie.Need-returns Inv-loop μ-loop
 returns c = at-last _ _ _ _ (omega arith) (c .before .loop .inv .1)
 
 pub odd-probes-spec : {M : Type 1} → statement M
-odd-probes-spec = tie.close (tie.spec Inv-loop μ-loop loop-holds odd-at-requires add-k loop-less loop-again returns)
+odd-probes-spec =
+    tie.close
+    (tie.spec Inv-loop μ-loop reach-of-requires loop-holds odd-at-requires add-k loop-less loop-again returns)
