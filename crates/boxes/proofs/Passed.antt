@@ -1,89 +1,89 @@
--- An edge that is passed over by one axis alone is not nearer than the best so far: it has no clip, and none of the box's four
--- sides is nearer. By the laws of ranges and of sides that miss.
+-- An edge that is passed over is not nearer than the best so far: it has no clip, and legs as long as its range lies from the box's
+-- sides are hopeless. By the laws of ranges; where the box's sides lie, and the side that is meant, is put in for each of the four.
 use Prim.Native.Nat.{ℕ}
-use mathlib.Core.Bool.{Bool, true, false, _&&_}
-use mathlib.Core.Path.{_≡_, refl, subst, sym, _∙_}
+use mathlib.Core.Bool.{Bool, true, false}
+use mathlib.Core.Path.{_≡_, subst, sym}
 use lib.Dec.{T}
 use lib.Ieee.{Float, binary64, fits}
 use Rattle.arith.specs.F64.{_≺_}
-use Rattle.arith.proofs.Laws.OrderHeld.{true→T, inf-not-less}
-use Rattle.profile.specs.Vertices.{nearer, nearestOf, upto, vertexAt, endAt}
+use Rattle.arith.proofs.Laws.OrderHeld.{inf-not-less}
+use Rattle.profile.specs.Vertices.{nearer, nearestOf, upto, vertex, vertexAt, endAt}
 use Rattle.profile.specs.declared.shapes.Aabb.{Aabb}
 use Rattle.profile.specs.declared.shapes.CollisionHit.{CollisionHit}
 use Rattle.profile.specs.declared.shapes.Edge.{Edge}
+use Rattle.profile.specs.declared.shapes.Vertex.{Vertex}
 use Rattle.profile.proofs.Steps.{pick}
 use Rattle.segments.specs.Clip.{clip, outside}
+use Rattle.segments.specs.Legs.{Hopeless}
 use Rattle.segments.specs.Segments.{segments}
-use Rattle.ranges.specs.Ranges.{farApart, passedAlong, rangeOf, sidesOf}
+use Rattle.ranges.specs.Ranges.{gapBetween, Has, range, rangesOf, sidesOf}
+use Rattle.ranges.specs.declared.shapes.Range.{Range}
 use Rattle.ranges.specs.declared.shapes.Sides.{Sides}
-use Rattle.ranges.proofs.FarApart.{far-along-r, far-along-z, sides-ended, back, down, there, up}
-use Rattle.ranges.proofs.Missed.{missed-r, missed-z}
+use Rattle.ranges.proofs.Apart.{has-back, has-end, has-itself, has-start, has-there, hopeless-segment, range-has}
 use Rattle.boxes.specs.Boxes.{corners, edgeBox}
+use Rattle.boxes.specs.Steps.{HeldBeside, Ranged}
 
-both-first : (p q : Bool) → (p && q) ≡ true → p ≡ true
-both-first true q e = refl
-both-first false q e = e
+module _ (x : Aabb) (e : Edge) (F : HeldBeside x e) {sides g : Sides} (i : sides ≡ sidesOf x) (j : g ≡ rangesOf (e .a) (e .b)) where
+  edge-z : Has (g .z) (e .a .z) (e .b .z)
+  edge-z = subst (λ (h : Sides). Has (h .z) (e .a .z) (e .b .z)) (sym j) (range-has _ _ (F .a-z))
 
-both-second : (p q : Bool) → (p && q) ≡ true → q ≡ true
-both-second true q e = e
-both-second false q e = absurd (true→T e)
+  edge-r : Has (g .r) (e .a .r) (e .b .r)
+  edge-r = subst (λ (h : Sides). Has (h .r) (e .a .r) (e .b .r)) (sym j) (range-has _ _ (F .a-r))
 
-module _ (least : Float) where
-  abbrev NotUnder : CollisionHit → Type 0
-  NotUnder h = (h .distance ≺ least) ≡ false
+  along-z : (a b : Float) → Has (sidesOf x .z) a b → Has (sides .z) a b
+  along-z a b h = subst (λ (d : Sides). Has (d .z) a b) (sym i) h
 
-  keep : (best new : CollisionHit) → NotUnder best → NotUnder new → NotUnder (nearer best new)
-  keep best new b n = pick NotUnder (new .distance ≺ best .distance) (λ t. n) (λ t. b)
+  along-r : (a b : Float) → Has (sidesOf x .r) a b → Has (sides .r) a b
+  along-r a b h = subst (λ (d : Sides). Has (d .r) a b) (sym i) h
 
-  four : (s : ℕ → CollisionHit) (best : CollisionHit) → NotUnder best → NotUnder (s 0) → NotUnder (s 1) → NotUnder (s 2)
-      → NotUnder (s 3) → NotUnder (nearestOf s best 4)
-  unfolding upto
-  four s best b e₀ e₁ e₂ e₃ = keep _ (s 3) (keep _ (s 2) (keep _ (s 1) (keep best (s 0) b e₀) e₁) e₂) e₃
+  -- a side, by a range along it and one across it
+  side : {c d : Vertex} {hz hr : Range} → Has hz (c .z) (d .z) → Has hr (c .r) (d .r) → Ranged e g c d hz hr
+  side z r = record { edge-z = edge-z; edge-r = edge-r; side-z = z; side-r = r }
 
-  module _ (x : Aabb) (e : Edge) where
-    abbrev side : ℕ → CollisionHit
-    side k = segments e (vertexAt (corners x) k) (endAt (corners x) k)
+  pub low-side : Ranged e g (vertex (x .z0) (x .r0)) (vertex (x .z1) (x .r0)) (sides .z) (range (x .r0) (x .r0))
+  low-side = side (along-z _ _ (has-there _ _ (F .z0) (F .z1))) (has-itself _ (F .r0))
 
-    none-nearer : clip x (e .a) (e .b) ≡ outside → NotUnder (side 0) → NotUnder (side 1) → NotUnder (side 2) → NotUnder (side 3)
+  pub last-side : Ranged e g (vertex (x .z1) (x .r0)) (vertex (x .z1) (x .r1)) (range (x .z1) (x .z1)) (sides .r)
+  last-side = side (has-itself _ (F .z1)) (along-r _ _ (has-there _ _ (F .r0) (F .r1)))
+
+  pub high-side : Ranged e g (vertex (x .z1) (x .r1)) (vertex (x .z0) (x .r1)) (sides .z) (range (x .r1) (x .r1))
+  high-side = side (along-z _ _ (has-back _ _ (F .z0) (F .z1))) (has-itself _ (F .r1))
+
+  pub first-side : Ranged e g (vertex (x .z0) (x .r1)) (vertex (x .z0) (x .r0)) (range (x .z0) (x .z0)) (sides .r)
+  first-side = side (has-itself _ (F .z0)) (along-r _ _ (has-back _ _ (F .r0) (F .r1)))
+
+  -- ---- the whole box
+  module _ (least : Float) where
+    abbrev NotUnder : CollisionHit → Type 0
+    NotUnder h = (h .distance ≺ least) ≡ false
+
+    keep : (best new : CollisionHit) → NotUnder best → NotUnder new → NotUnder (nearer best new)
+    keep best new b n = pick NotUnder (new .distance ≺ best .distance) (λ t. n) (λ t. b)
+
+    four : (s : ℕ → CollisionHit) (best : CollisionHit) → NotUnder best → NotUnder (s 0) → NotUnder (s 1) → NotUnder (s 2)
+        → NotUnder (s 3) → NotUnder (nearestOf s best 4)
+    unfolding upto
+    four s best b e₀ e₁ e₂ e₃ = keep _ (s 3) (keep _ (s 2) (keep _ (s 1) (keep best (s 0) b e₀) e₁) e₂) e₃
+
+    none-nearer : clip x (e .a) (e .b) ≡ outside
+        → ((c d : Vertex) → Has (sides .z) (c .z) (d .z) → Has (sides .r) (c .r) (d .r) → NotUnder (segments e c d))
         → NotUnder (edgeBox x e)
     unfolding edgeBox
-    none-nearer m e₀ e₁ e₂ e₃ = rw m (four side _ (inf-not-less least) e₀ e₁ e₂ e₃)
+    none-nearer m k =
+        rw m
+        (four (λ n. segments e (vertexAt (corners x) n) (endAt (corners x) n)) _ (inf-not-less least)
+        (k _ _ (along-z _ _ (has-there _ _ (F .z0) (F .z1))) (along-r _ _ (has-start _ _ (F .r0) (F .r1))))
+        (k _ _ (along-z _ _ (has-end _ _ (F .z0) (F .z1))) (along-r _ _ (has-there _ _ (F .r0) (F .r1))))
+        (k _ _ (along-z _ _ (has-back _ _ (F .z0) (F .z1))) (along-r _ _ (has-end _ _ (F .r0) (F .r1))))
+        (k _ _ (along-z _ _ (has-start _ _ (F .z0) (F .z1))) (along-r _ _ (has-back _ _ (F .r0) (F .r1)))))
 
-    module _ (B : fits binary64 least ≡ true) where
-      along-z : T (fits binary64 (e .a .z)) → T (fits binary64 (x .z0)) → T (fits binary64 (x .z1))
-          → passedAlong least (e .a .z) (e .b .z) (x .z0) (x .z1) (sidesOf x .z) ≡ true → NotUnder (edgeBox x e)
-      unfolding passedAlong
-      along-z A Z₀ Z₁ p =
-          let H = sides-ended (x .z0) (x .z1) Z₀ Z₁ in
-          let far = both-first (farApart least (rangeOf (e .a .z) (e .b .z)) (sidesOf x .z)) _ p in
-          none-nearer (missed-z x (e .a) (e .b) (both-second (farApart least (rangeOf (e .a .z) (e .b .z)) (sidesOf x .z)) _ p))
-          (far-along-z least B e _ _ _ H A (there (x .z0) (x .z1) Z₀ Z₁) far)
-          (far-along-z least B e _ _ _ H A (up (x .z0) (x .z1) Z₀ Z₁) far)
-          (far-along-z least B e _ _ _ H A (back (x .z0) (x .z1) Z₀ Z₁) far)
-          (far-along-z least B e _ _ _ H A (down (x .z0) (x .z1) Z₀ Z₁) far)
+    pub passed : Hopeless (gapBetween (g .z) (sides .z)) (gapBetween (g .r) (sides .r)) least → clip x (e .a) (e .b) ≡ outside
+        → NotUnder (edgeBox x e)
+    passed w m =
+        none-nearer m (λ c d z r. hopeless-segment least e c d (g .z) (g .r) (sides .z) (sides .r) edge-z edge-r z r w)
 
-      along-r : T (fits binary64 (e .a .r)) → T (fits binary64 (x .r0)) → T (fits binary64 (x .r1))
-          → passedAlong least (e .a .r) (e .b .r) (x .r0) (x .r1) (sidesOf x .r) ≡ true → NotUnder (edgeBox x e)
-      unfolding passedAlong
-      along-r A R₀ R₁ p =
-          let H = sides-ended (x .r0) (x .r1) R₀ R₁ in
-          let far = both-first (farApart least (rangeOf (e .a .r) (e .b .r)) (sidesOf x .r)) _ p in
-          none-nearer (missed-r x (e .a) (e .b) (both-second (farApart least (rangeOf (e .a .r) (e .b .r)) (sidesOf x .r)) _ p))
-          (far-along-r least B e _ _ _ H A (down (x .r0) (x .r1) R₀ R₁) far)
-          (far-along-r least B e _ _ _ H A (there (x .r0) (x .r1) R₀ R₁) far)
-          (far-along-r least B e _ _ _ H A (up (x .r0) (x .r1) R₀ R₁) far)
-          (far-along-r least B e _ _ _ H A (back (x .r0) (x .r1) R₀ R₁) far)
-
-      -- g is where the sides lie, t what the test of it gave
-      module _ {g : Sides} {t : Bool} (i : g ≡ sidesOf x) where
-        pub passed-z : T (fits binary64 (e .a .z)) → T (fits binary64 (x .z0)) → T (fits binary64 (x .z1))
-            → t ≡ passedAlong least (e .a .z) (e .b .z) (x .z0) (x .z1) (g .z) → t ≡ true → NotUnder (edgeBox x e)
-        passed-z A Z₀ Z₁ p k =
-            along-z A Z₀ Z₁
-            (subst (λ (h : Sides). passedAlong least (e .a .z) (e .b .z) (x .z0) (x .z1) (h .z) ≡ true) i (sym p ∙ k))
-
-        pub passed-r : T (fits binary64 (e .a .r)) → T (fits binary64 (x .r0)) → T (fits binary64 (x .r1))
-            → t ≡ passedAlong least (e .a .r) (e .b .r) (x .r0) (x .r1) (g .r) → t ≡ true → NotUnder (edgeBox x e)
-        passed-r A R₀ R₁ p k =
-            along-r A R₀ R₁
-            (subst (λ (h : Sides). passedAlong least (e .a .r) (e .b .r) (x .r0) (x .r1) (h .r) ≡ true) i (sym p ∙ k))
+-- a side that is passed over
+pub side-passed : (least : Float) (e : Edge) (g : Sides) (c d : Vertex) (hz hr : Range) → Ranged e g c d hz hr
+    → Hopeless (gapBetween (g .z) hz) (gapBetween (g .r) hr) least → (segments e c d .distance ≺ least) ≡ false
+side-passed least e g c d hz hr R w =
+    hopeless-segment least e c d (g .z) (g .r) hz hr (R .edge-z) (R .edge-r) (R .side-z) (R .side-r) w

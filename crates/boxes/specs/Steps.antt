@@ -2,18 +2,49 @@
 use Prim.Native.Nat.{ℕ}
 use mathlib.Core.Bool.{Bool}
 use mathlib.Core.List.{List}
-use lib.Ieee.{Float}
+use mathlib.Core.Path.{_≡_}
+use lib.Dec.{T}
+use lib.Ieee.{Float, binary64, fits}
 use Rattle.arith.specs.F64.{𝟘}
 use Rattle.profile.specs.Vertices.{hit, any, count, vertexAt, endAt, edgeAt, nearer}
 use Rattle.profile.specs.declared.shapes.Aabb.{Aabb}
 use Rattle.profile.specs.declared.shapes.CollisionHit.{CollisionHit}
+use Rattle.profile.specs.declared.shapes.Edge.{Edge}
+use Rattle.profile.specs.declared.shapes.Vertex.{Vertex}
+use Rattle.segments.specs.Legs.{Legs}
+use Rattle.segments.specs.declared.shapes.Near.{Near}
 use Rattle.points.specs.Overlap.{resultOf}
+use Rattle.ranges.specs.Ranges.{Has, rangesOf, sidesOf}
 use Rattle.ranges.specs.Search.{FoundFrom}
+use Rattle.ranges.specs.declared.shapes.Range.{Range}
+use Rattle.ranges.specs.declared.shapes.Sides.{Sides}
 use Rattle.boxes.specs.Boxes.{boxGap, edgeBox, segmentThroughInterior}
 
 -- the search for the edge nearest to the box, from one edge up to another
 abbrev pub GapFrom : List Float → Aabb → ℕ → ℕ → CollisionHit → CollisionHit → Type 0
 GapFrom s x = FoundFrom (λ k. edgeBox x (edgeAt s k))
+
+-- g has the edge's computed points, hz and hr those of the box's side from c to d
+pub record Ranged (e : Edge) (g : Sides) (c d : Vertex) (hz hr : Range) : Type 0 where
+  pub edge-z : Has (g .z) (e .a .z) (e .b .z)
+  pub edge-r : Has (g .r) (e .a .r) (e .b .r)
+  pub side-z : Has hz (c .z) (d .z)
+  pub side-r : Has hr (c .r) (d .r)
+
+-- f64 holds the edge's start and the box's bounds
+pub record HeldBeside (x : Aabb) (e : Edge) : Type 0 where
+  pub a-z : T (fits binary64 (e .a .z))
+  pub a-r : T (fits binary64 (e .a .r))
+  pub z0 : T (fits binary64 (x .z0))
+  pub z1 : T (fits binary64 (x .z1))
+  pub r0 : T (fits binary64 (x .r0))
+  pub r1 : T (fits binary64 (x .r1))
+
+-- what is known on the way along a section: where the box's sides lie, where the edge does, the legs of the best
+pub record Along (x : Aabb) (sides : Sides) (e : Edge) (g : Sides) (best : Near) : Type 0 where
+  pub box-sides : sides ≡ sidesOf x
+  pub edge-ranges : g ≡ rangesOf (e .a) (e .b)
+  pub legs : Legs best
 
 -- an edge's clipped middle lies well inside
 abbrev pub anyThrough : List Float → Aabb → Bool

@@ -1,48 +1,77 @@
-// The gap between a section and a box. An edge that along one axis is no nearer than the best so far, nor
-// clipped, is passed over, and the edge that is likely the nearest is tried first.
+// The gap between a section and a box. An edge that is not clipped and whose range lies as far from the box's as
+// the best is passed over, and so is a side; the edge that is likely the nearest is tried first.
 ghost use mathlib.Core.Path.{_≡_};
 ghost use mathlib.Core.Bool.{true, false};
 ghost use Prim.Native.Nat.{_<_, _≤_};
 ghost use Rattle.arith.specs.F64.{_≺_};
 ghost use Rattle.profile.specs.Vertices.{count, vertexAt, endAt, edgeAt, nearer, nearestOf};
+ghost use Rattle.segments.specs.Legs.{Legs, Nearest};
 ghost use Rattle.segments.specs.Segments.{segments};
 ghost use Rattle.ranges.specs.Ranges.{sidesOf};
 ghost use Rattle.boxes.specs.Boxes.{corners, edgeBox, boxGap};
-ghost use Rattle.boxes.specs.Steps.{GapFrom};
+ghost use Rattle.boxes.specs.Steps.{Along, GapFrom, HeldBeside, Ranged};
 use profile::Aabb;
 use profile::CollisionHit;
 use profile::Edge;
 use profile::Vertex;
 use profile::edge_at;
-use profile::nearer_of;
 use profile::on;
 use profile::vertex_at;
+use ranges::Range;
 use ranges::Sides;
+use ranges::gap_between;
 use ranges::likely_edge;
-use ranges::passed_along;
+use ranges::misses_box;
+use ranges::ranges_of;
 use ranges::sides_of;
 use ranges::start_over;
+use segments::Near;
 use segments::clip_segment;
+use segments::hopeless;
+use segments::legless;
 use segments::lerp;
+use segments::nearer_near;
 use segments::seg_seg_point_on_first;
 
+// The box's side from c to d may be nearer to the edge. The edge lies in g, the side in hz and hr.
+fn nearer_side(edge: Edge, g: Sides, c: Vertex, d: Vertex, hz: Range, hr: Range, best: Near) -> Near
+    requires { ⌜ Ranged edge g c d hz hr × Legs best ⌝ }
+    ensures { λ r. ⌜ Nearest best (segments edge c d) r ⌝ }
+{
+    let z = gap_between(g.z, hz);
+    let r = gap_between(g.r, hr);
+    if hopeless(z, r, best) {
+        return best;
+    }
+    seg_seg_point_on_first(edge, c, d, best)
+}
+
 // A side of the box may be nearer to the edge.
-fn nearest_side(edge: Edge, x: Aabb, best: CollisionHit) -> CollisionHit
-    ensures { λ r. ⌜ r ≡ nearestOf (λ k. segments edge (vertexAt (corners x) k) (endAt (corners x) k)) best 4 ⌝ }
+fn nearest_side(edge: Edge, x: Aabb, sides: Sides, g: Sides, best: Near) -> Near
+    requires { ⌜ Along x sides edge g best × HeldBeside x edge ⌝ }
+    ensures { λ r. ⌜
+        (r .hit ≡ nearestOf (λ k. segments edge (vertexAt (corners x) k) (endAt (corners x) k)) (best .hit) 4) × Legs r ⌝ }
 {
     let c00 = Vertex { z: x.z0, r: x.r0 };
     let c10 = Vertex { z: x.z1, r: x.r0 };
     let c11 = Vertex { z: x.z1, r: x.r1 };
     let c01 = Vertex { z: x.z0, r: x.r1 };
-    let first = seg_seg_point_on_first(edge, c00, c10, best);
-    let second = seg_seg_point_on_first(edge, c10, c11, first);
-    let third = seg_seg_point_on_first(edge, c11, c01, second);
-    seg_seg_point_on_first(edge, c01, c00, third)
+    let low = Range { lo: x.r0, hi: x.r0 };
+    let last = Range { lo: x.z1, hi: x.z1 };
+    let high = Range { lo: x.r1, hi: x.r1 };
+    let start = Range { lo: x.z0, hi: x.z0 };
+    let along_z = sides.z;
+    let along_r = sides.r;
+    let first = nearer_side(edge, g, c00, c10, along_z, low, best);
+    let second = nearer_side(edge, g, c10, c11, last, along_r, first);
+    let third = nearer_side(edge, g, c11, c01, along_z, high, second);
+    nearer_side(edge, g, c01, c00, start, along_r, third)
 }
 
 // The edge may be nearer to the box.
-fn segment_aabb_distance(edge: Edge, x: Aabb, best: CollisionHit) -> CollisionHit
-    ensures { λ r. ⌜ r ≡ nearer best (edgeBox x edge) ⌝ }
+fn segment_aabb_distance(edge: Edge, x: Aabb, sides: Sides, g: Sides, best: Near) -> Near
+    requires { ⌜ Along x sides edge g best ⌝ }
+    ensures { λ r. ⌜ Nearest best (edgeBox x edge) r ⌝ }
 {
     let c = clip_segment(edge.a, edge.b, x);
     let any = c.any;
@@ -52,47 +81,43 @@ fn segment_aabb_distance(edge: Edge, x: Aabb, best: CollisionHit) -> CollisionHi
             distance: 0.0,
             witness: on(edge.number, lerp(edge.a, edge.b, t0)),
         };
-        return nearer_of(best, entered);
+        return nearer_near(best, legless(entered));
     }
-    nearest_side(edge, x, best)
+    nearest_side(edge, x, sides, g, best)
 }
 
-// The edge is not nearer than this, as one axis alone tells. The box's sides lie in `sides`.
-fn passed_over(edge: Edge, x: Aabb, sides: Sides, least: f64) -> bool
-    requires { ⌜ sides ≡ sidesOf x ⌝ }
-    ensures { λ r. ⌜ (r ≡ true → (edgeBox x edge .distance ≺ least) ≡ false) ⌝ }
+// The edge is not nearer than the best, as its range tells, and one axis that it is not clipped.
+fn passed_over(edge: Edge, x: Aabb, sides: Sides, g: Sides, best: Near) -> bool
+    requires { ⌜ Along x sides edge g best ⌝ }
+    ensures { λ r. ⌜ (r ≡ true → (edgeBox x edge .distance ≺ best .hit .distance) ≡ false) ⌝ }
 {
     let a = edge.a;
     let b = edge.b;
-    if passed_along(least, a.z, b.z, x.z0, x.z1, sides.z) {
-        return true;
+    let z = gap_between(g.z, sides.z);
+    let r = gap_between(g.r, sides.r);
+    if hopeless(z, r, best) {
+        return misses_box(a, b, x);
     }
-    passed_along(least, a.r, b.r, x.r0, x.r1, sides.r)
+    false
 }
 
 // Edge k may be nearer to the box.
-fn gap_at(s: &[f64], x: Aabb, sides: Sides, k: usize, best: CollisionHit) -> CollisionHit
-    requires { ⌜ (k < count (now s)) × (sides ≡ sidesOf x) ⌝ }
-    ensures { λ r. ⌜ r ≡ nearer best (edgeBox x (edgeAt (now (s .entry)) k)) ⌝ }
+fn gap_at(s: &[f64], x: Aabb, sides: Sides, k: usize, best: Near) -> Near
+    requires { ⌜ (k < count (now s)) × (sides ≡ sidesOf x) × Legs best ⌝ }
+    ensures { λ r. ⌜ Nearest best (edgeBox x (edgeAt (now (s .entry)) k)) r ⌝ }
 {
     let edge = edge_at(s, k);
-    if passed_over(edge, x, sides, best.distance) {
+    let g = ranges_of(edge.a, edge.b);
+    if passed_over(edge, x, sides, g, best) {
         return best;
     }
-    segment_aabb_distance(edge, x, best)
+    segment_aabb_distance(edge, x, sides, g, best)
 }
 
 // Edges from this one up to that one may be nearer to the box.
-fn gap_from(
-    s: &[f64],
-    x: Aabb,
-    sides: Sides,
-    from: usize,
-    to: usize,
-    start: CollisionHit,
-) -> CollisionHit
-    requires { ⌜ (from ≤ to) × (to ≤ count (now s)) × (sides ≡ sidesOf x) ⌝ }
-    ensures { λ r. ⌜ GapFrom (now (s .entry)) x from to start r ⌝ }
+fn gap_from(s: &[f64], x: Aabb, sides: Sides, from: usize, to: usize, start: Near) -> Near
+    requires { ⌜ (from ≤ to) × (to ≤ count (now s)) × (sides ≡ sidesOf x) × Legs start ⌝ }
+    ensures { λ r. ⌜ GapFrom (now (s .entry)) x from to (start .hit) (r .hit) × Legs r ⌝ }
 {
     let mut best = start;
     let mut k = from;
@@ -101,6 +126,16 @@ fn gap_from(
         k += 1;
     }
     best
+}
+
+// The edge that is tried first: nothing is known yet, so that it is not asked whether it may be passed over.
+fn first_gap(s: &[f64], x: Aabb, sides: Sides, k: usize, none: CollisionHit) -> Near
+    requires { ⌜ (k < count (now s)) × (sides ≡ sidesOf x) ⌝ }
+    ensures { λ r. ⌜ (r .hit ≡ nearer none (edgeBox x (edgeAt (now (s .entry)) k))) × Legs r ⌝ }
+{
+    let edge = edge_at(s, k);
+    let g = ranges_of(edge.a, edge.b);
+    segment_aabb_distance(edge, x, sides, g, legless(none))
 }
 
 pub fn box_gap(s: &[f64], x: Aabb) -> CollisionHit
@@ -115,9 +150,10 @@ pub fn box_gap(s: &[f64], x: Aabb) -> CollisionHit
     };
     let k = likely_edge(s, x);
     let after = k + 1;
-    let first = gap_at(s, x, sides, k, none);
-    let start = start_over(first, none);
-    let before = gap_from(s, x, sides, 0, k, start);
-    let best = nearer_of(before, first);
-    gap_from(s, x, sides, after, n, best)
+    let first = first_gap(s, x, sides, k, none);
+    let start = start_over(first.hit, none);
+    let before = gap_from(s, x, sides, 0, k, legless(start));
+    let best = nearer_near(before, first);
+    let last = gap_from(s, x, sides, after, n, best);
+    last.hit
 }

@@ -33,7 +33,8 @@ fn nearer_edge(s: &[f64], j: usize, a: Vertex, b: Vertex, best: CollisionHit) ->
     requires { ⌜ j < count (now s) ⌝ }
     ensures { λ r. ⌜ r ≡ nearer best (segments (edgeAt (now (s .entry)) j) a b) ⌝ }
 {
-    seg_seg_point_on_first(edge_at(s, j), a, b, best)
+    let found = seg_seg_point_on_first(edge_at(s, j), a, b, segments::legless(best));
+    found.hit
 }
 
 fn convex_row(c: &[f64], s: &[f64], i: usize, start: CollisionHit) -> CollisionHit

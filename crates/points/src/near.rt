@@ -43,7 +43,8 @@ fn surface_edge(p: Vertex, edge: Edge, best: CollisionHit) -> CollisionHit
     ensures { λ r. ⌜ r ≡ cond (edgeIsSurface (edge .a) (edge .b)) (nearer best (closest p edge)) best ⌝ }
 {
     if edge_is_surface(edge.a, edge.b) {
-        return point_segment(p, edge, best);
+        let found = point_segment(p, edge, segments::legless(best));
+        return found.hit;
     }
     best
 }

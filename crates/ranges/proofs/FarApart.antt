@@ -5,19 +5,20 @@ use Prim.Native.Nat.{ℕ, _+_, _≤_}
 use native.Mathlib.Nat.{le-of-eq, le-trans}
 use native.Mathlib.Omega.{arith}
 use mathlib.Core.Bool.{Bool, true, false, not, cond, _||_, or-true}
-use mathlib.Core.Path.{_≡_, refl, sym}
+use mathlib.Core.Path.{_≡_, refl, subst, sym, _∙_}
+use borrow.Author.Tests.{le-ltb}
 use lib.Dec.{T, lit≤}
 use lib.Ieee.{Float, nan, inf, fin, binary64, fits, lt, neg, ofBits}
-use lib.Ieee.Fits.{and-i, add-fits, div-fits, sub-fits}
+use lib.Ieee.Fits.{and-i, add-fits, div-fits, nan-fits, sub-fits}
 use Rattle.roots.specs.Roots.{hypot}
 use Rattle.roots.proofs.Rounding.Key.{finiteNumber, key, magnitude, mid, number, number-of, unit}
-use Rattle.roots.proofs.Rounding.KeyOrder.{nlt→key}
+use Rattle.roots.proofs.Rounding.KeyOrder.{lt-key, nlt→key}
 use Rattle.arith.specs.F64.{_⊕_, _⊖_, _⊗_, _⊘_, _≺_, _≼_, 𝟘, 𝟙, e-18, e-24}
 use Rattle.arith.specs.Num.{abs, isFinite}
 use Rattle.arith.proofs.Laws.Along.{Share, no-number, share}
 use Rattle.arith.proofs.Laws.Gap.{gap-above, gap-below}
 use Rattle.arith.proofs.Laws.Hypot.{hypot-comm}
-use Rattle.arith.proofs.Laws.OrderHeld.{number-held}
+use Rattle.arith.proofs.Laws.OrderHeld.{not-less-nan, number-held}
 use Rattle.arith.proofs.Laws.Sizes.{finite-number, one-finite, zero-finite, zero-key, zero-number}
 use Rattle.profile.specs.declared.shapes.Edge.{Edge}
 use Rattle.profile.specs.declared.shapes.Vertex.{Vertex}
@@ -34,7 +35,7 @@ one-key : key binary64 𝟙 ≤ mid binary64 + unit binary64
 unfolding mid key magnitude unit ofBits
 one-key = lit≤ tt
 
-neither : (x : Float) → T (fits binary64 x) → T (not (x ≺ 𝟘)) → T (not (𝟙 ≺ x)) → Share binary64 x
+pub neither : (x : Float) → T (fits binary64 x) → T (not (x ≺ 𝟘)) → T (not (𝟙 ≺ x)) → Share binary64 x
 neither nan X h k = no-number refl
 neither (inf true) X h k = absurd (unfold lt ofBits in h)
 neither (inf false) X h k = absurd (unfold lt ofBits in k)
@@ -44,6 +45,25 @@ neither (fin s m i) X h k =
     share F
     (le-trans (le-of-eq (sym zero-key)) (nlt→key binary64 (fin s m i) 𝟘 N zero-number h))
     (le-trans (nlt→key binary64 𝟙 (fin s m i) (finite-number one-finite) N k) one-key)
+
+pub share-held : (x : Float) → Share binary64 x → T (fits binary64 x)
+share-held x (no-number e) = subst (λ (t : Float). T (fits binary64 t)) (sym e) (nan-fits binary64)
+share-held x (share F l m) = number-held binary64 x (number-of binary64 x F)
+
+pub share-least : (x : Float) → Share binary64 x → (x ≺ 𝟘) ≡ false
+unfolding lt
+share-least x (no-number e) = rw e
+share-least x (share F l m) =
+    lt-key binary64 x 𝟘 (number-of binary64 x F) zero-number ∙ le-ltb _ _ (le-trans (le-of-eq zero-key) l)
+
+key-one : mid binary64 + unit binary64 ≤ key binary64 𝟙
+unfolding mid key magnitude unit ofBits
+key-one = lit≤ tt
+
+pub share-most : (x : Float) → Share binary64 x → (𝟙 ≺ x) ≡ false
+share-most x (no-number e) = rw e (not-less-nan 𝟙)
+share-most x (share F l m) =
+    lt-key binary64 𝟙 x (finite-number one-finite) (number-of binary64 x F) ∙ le-ltb _ _ (le-trans m key-one)
 
 zero-share : Share binary64 𝟘
 zero-share =
@@ -61,15 +81,15 @@ clamped-share : (x : Float) → T (fits binary64 x) → Share binary64 (unitClam
 clamped-share x X =
     pick (Share binary64) (x ≺ 𝟘) (λ h. zero-share) (λ h. pick (Share binary64) (𝟙 ≺ x) (λ k. one-share) (λ k. neither x X h k))
 
-record Shares (p : Places) : Type 0 where
-  s : Share binary64 (p .s)
-  t : Share binary64 (p .t)
+pub record Shares (p : Places) : Type 0 where
+  pub s : Share binary64 (p .s)
+  pub t : Share binary64 (p .t)
 
 module _ (a b c e f : Float) where
   quotient : (x y : Float) → Share binary64 (unitClamp (x ⊘ y))
   quotient x y = clamped-share (x ⊘ y) (div-fits binary64 x y)
 
-  places-shares : Shares (closestPlaces a b c e f)
+  pub places-shares : Shares (closestPlaces a b c e f)
   unfolding closestPlaces
   places-shares =
       pick Shares (a ≼ e-24)
@@ -168,7 +188,7 @@ module _ (least a b x : Float) (F : isFinite (b ⊖ a) ≡ true) where
       go true = rw p
       go false = rw q
 
-at-itself : (x : Float) → T (fits binary64 x) → Holds (range x x) x
+pub at-itself : (x : Float) → T (fits binary64 x) → Holds (range x x) x
 at-itself x X = record { low = not-below-itself x X; high = not-below-itself x X }
 
 module _ (least : Float) (B : fits binary64 least ≡ true) (p a b : Vertex) where

@@ -2,5 +2,6 @@
 -- it meets.
 pub mod Ranges
 pub mod FarApart
+pub mod Apart
 pub mod Missed
 pub mod Nearest

@@ -1,10 +1,13 @@
 -- Where the computed points of a segment lie along one axis, and those of a box's four sides; and when one side of a box alone
 -- leaves nothing of a segment. Only what functions below the entry points promise each other: no answer is defined by it.
-use mathlib.Core.Bool.{Bool, false, cond, _&&_, _||_}
-use lib.Ieee.{Float, neg}
-use Rattle.arith.specs.F64.{_⊕_, _⊖_, _⊘_, _≺_, _≼_, 𝟘, 𝟙, ∞, e-15, e-18}
+use mathlib.Core.Bool.{Bool, false, cond, _||_}
+use mathlib.Core.Path.{_≡_}
+use lib.Dec.{T}
+use lib.Ieee.{Float, binary64, fits, neg}
+use Rattle.arith.specs.F64.{_⊕_, _⊖_, _⊗_, _⊘_, _≺_, _≼_, 𝟘, 𝟙, ∞, e-15, e-18}
 use Rattle.arith.specs.Num.{abs, isFinite, max, min}
 use Rattle.profile.specs.declared.shapes.Aabb.{Aabb}
+use Rattle.profile.specs.declared.shapes.Vertex.{Vertex}
 use Rattle.ranges.specs.declared.shapes.Range.{Range}
 use Rattle.ranges.specs.declared.shapes.Sides.{Sides}
 
@@ -27,6 +30,24 @@ sidesRange a b = joined (rangeOf a b) (rangeOf b a)
 abbrev pub sidesOf : Aabb → Sides
 sidesOf x = record { z = sidesRange (x .z0) (x .z1); r = sidesRange (x .r0) (x .r1) }
 
+-- along both axes, those of a segment from a to b
+abbrev pub rangesOf : Vertex → Vertex → Sides
+rangesOf a b = record { z = rangeOf (a .z) (b .z); r = rangeOf (a .r) (b .r) }
+
+-- h has every computed point of a segment from a to b: for no t from 0 to 1 does it lie below, or above
+pub record Has (h : Range) (a b : Float) : Type 0 where
+  pub low-end : T (fits binary64 (h .lo))
+  pub high-end : T (fits binary64 (h .hi))
+  pub low : (t : Float) → T (fits binary64 t) → (t ≺ 𝟘) ≡ false → (𝟙 ≺ t) ≡ false → (a ⊕ (b ⊖ a) ⊗ t ≺ h .lo) ≡ false
+  pub high : (t : Float) → T (fits binary64 t) → (t ≺ 𝟘) ≡ false → (𝟙 ≺ t) ≡ false → (h .hi ≺ a ⊕ (b ⊖ a) ⊗ t) ≡ false
+
+-- how far two ranges lie apart, as rounded; 0 where they do not
+unfoldable pub gapBetween : Range → Range → Float
+gapBetween g h =
+    let over = g .lo ⊖ h .hi in
+    let under = h .lo ⊖ g .hi in
+    cond (𝟘 ≺ over) over (cond (𝟘 ≺ under) under 𝟘)
+
 -- two ranges lie at least this far apart, as rounded
 unfoldable pub farApart : Float → Range → Range → Bool
 farApart least g h = (least ≼ g .lo ⊖ h .hi) || (least ≼ h .lo ⊖ g .hi)
@@ -39,7 +60,3 @@ sideMisses p q =
 -- one of the two sides across one axis does so: the segment runs from a to b, the box from lo to hi
 unfoldable pub missesAlong : Float → Float → Float → Float → Bool
 missesAlong a b lo hi = sideMisses (neg (b ⊖ a)) (a ⊖ lo) || sideMisses (b ⊖ a) (hi ⊖ a)
-
--- along this axis the segment lies as far from the box's sides, h, as the best so far, and the clip is none
-unfoldable pub passedAlong : Float → Float → Float → Float → Float → Range → Bool
-passedAlong least a b lo hi h = farApart least (rangeOf a b) h && missesAlong a b lo hi

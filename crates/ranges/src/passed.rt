@@ -1,14 +1,25 @@
-// Whether an edge may be passed over: along one axis it is neither nearer than the best nor clipped.
+// What lets an edge be passed over: how far it lies from the body along one axis, and that no clip is left.
 ghost use mathlib.Core.Path.{_≡_};
 ghost use mathlib.Core.Bool.{true};
-ghost use Rattle.ranges.specs.Ranges.{range, rangeOf, farApart, sideMisses, missesAlong, passedAlong};
-use super::range::range_of;
+ghost use Rattle.segments.specs.Clip.{clip, outside};
+ghost use Rattle.ranges.specs.Ranges.{range, rangeOf, farApart, gapBetween, sideMisses, missesAlong};
 use super::shapes::Range;
+use profile::Aabb;
+use profile::Vertex;
 
-fn far_apart(least: f64, g: Range, h: Range) -> bool
-    ensures { λ r. ⌜ r ≡ farApart least g h ⌝ }
+// How far two ranges lie apart, 0 where they do not.
+pub fn gap_between(g: Range, h: Range) -> f64
+    ensures { λ r. ⌜ r ≡ gapBetween g h ⌝ }
 {
-    g.lo - h.hi >= least || h.lo - g.hi >= least
+    let over = g.lo - h.hi;
+    if over > 0.0 {
+        return over;
+    }
+    let under = h.lo - g.hi;
+    if under > 0.0 {
+        return under;
+    }
+    0.0
 }
 
 // The points of a segment from a to b lie at least this far from x, along one axis.
@@ -47,6 +58,7 @@ fn side_misses(p: f64, q: f64) -> bool
     q / p < 0.0
 }
 
+// One of the two sides across one axis does so: the segment runs from a to b, the box from lo to hi.
 fn misses_along(a: f64, b: f64, lo: f64, hi: f64) -> bool
     ensures { λ r. ⌜ r ≡ missesAlong a b lo hi ⌝ }
 {
@@ -57,11 +69,12 @@ fn misses_along(a: f64, b: f64, lo: f64, hi: f64) -> bool
     side_misses(d, hi - a)
 }
 
-pub fn passed_along(least: f64, a: f64, b: f64, lo: f64, hi: f64, h: Range) -> bool
-    ensures { λ r. ⌜ r ≡ passedAlong least a b lo hi h ⌝ }
+// One side of the box alone leaves nothing of the segment from a to b.
+pub fn misses_box(a: Vertex, b: Vertex, x: Aabb) -> bool
+    ensures { λ r. ⌜ (r ≡ true → clip x a b ≡ outside) ⌝ }
 {
-    if far_apart(least, range_of(a, b), h) {
-        return misses_along(a, b, lo, hi);
+    if misses_along(a.z, b.z, x.z0, x.z1) {
+        return true;
     }
-    false
+    misses_along(a.r, b.r, x.r0, x.r1)
 }

@@ -1,12 +1,13 @@
 // Where the computed points of a segment, and of a box's sides, lie along one axis.
 ghost use mathlib.Core.Path.{_≡_};
-ghost use Rattle.ranges.specs.Ranges.{rangeOf, joined, sidesRange, sidesOf};
+ghost use Rattle.ranges.specs.Ranges.{rangeOf, rangesOf, joined, sidesRange, sidesOf};
 use super::shapes::Range;
 use super::shapes::Sides;
 use profile::Aabb;
+use profile::Vertex;
 
 // The points a + (b - a) s, for s from 0 to 1.
-pub fn range_of(a: f64, b: f64) -> Range
+fn range_of(a: f64, b: f64) -> Range
     ensures { λ r. ⌜ r ≡ rangeOf a b ⌝ }
 {
     let d = b - a;
@@ -42,5 +43,15 @@ pub fn sides_of(x: Aabb) -> Sides
     Sides {
         z: sides_range(x.z0, x.z1),
         r: sides_range(x.r0, x.r1),
+    }
+}
+
+// The points of a segment from a to b.
+pub fn ranges_of(a: Vertex, b: Vertex) -> Sides
+    ensures { λ r. ⌜ r ≡ rangesOf a b ⌝ }
+{
+    Sides {
+        z: range_of(a.z, b.z),
+        r: range_of(a.r, b.r),
     }
 }

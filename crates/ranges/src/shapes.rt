@@ -6,7 +6,7 @@ pub struct Range {
     pub hi: f64,
 }
 
-// Where the points of a box's sides lie.
+// Where points lie along both axes: those of a box's sides, or of a segment.
 pub struct Sides {
     pub z: Range,
     pub r: Range,

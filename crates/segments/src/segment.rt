@@ -8,6 +8,9 @@ ghost use Rattle.profile.specs.Vertices as profile;
 ghost use Rattle.profile.specs.Vertices.{vertex, hit, nearer};
 ghost use Rattle.segments.specs.Segments.{dot, along, apart, unitClamp, closestPoint, closest};
 ghost use Rattle.segments.specs.Segments.{places, closestPlaces, segments};
+ghost use Rattle.segments.specs.Legs.{Legs, Nearest};
+use super::near::nearer_legs;
+use super::shapes::Near;
 use super::shapes::Places;
 use profile::CollisionHit;
 use profile::Edge;
@@ -41,7 +44,7 @@ fn advance(a: Vertex, d: Vertex, t: f64) -> Vertex
 
 // The point w of edge k, at the distance of p and q, where that is less than best. A hypot is no less than
 // either leg, and its square about the sum of theirs, so that most need no root.
-fn nearer_between(best: CollisionHit, p: Vertex, q: Vertex, k: usize, w: Vertex) -> CollisionHit
+pub fn nearer_between(best: CollisionHit, p: Vertex, q: Vertex, k: usize, w: Vertex) -> CollisionHit
     ensures { λ r. ⌜ r ≡ nearer best (hit (apart p q) (profile.on k w)) ⌝ }
 {
     let least = best.distance;
@@ -110,11 +113,12 @@ pub fn closest_point(p: Vertex, a: Vertex, b: Vertex) -> Vertex
 }
 
 // The edge may be nearer to p.
-pub fn point_segment(p: Vertex, edge: Edge, best: CollisionHit) -> CollisionHit
-    ensures { λ r. ⌜ r ≡ nearer best (closest p edge) ⌝ }
+pub fn point_segment(p: Vertex, edge: Edge, best: Near) -> Near
+    requires { ⌜ Legs best ⌝ }
+    ensures { λ r. ⌜ Nearest best (closest p edge) r ⌝ }
 {
     let q = closest_point(p, edge.a, edge.b);
-    nearer_between(best, p, q, edge.number, q)
+    nearer_legs(best, p, q, edge.number, q)
 }
 
 // Where on the first segment to start: 0 where the two are nearly parallel.
@@ -166,13 +170,9 @@ fn closest_places(a: f64, b: f64, c: f64, e: f64, f: f64) -> Places
 }
 
 // The second segment may be nearer to the edge, at a point of the edge.
-pub fn seg_seg_point_on_first(
-    edge: Edge,
-    p2: Vertex,
-    q2: Vertex,
-    best: CollisionHit,
-) -> CollisionHit
-    ensures { λ r. ⌜ r ≡ nearer best (segments edge p2 q2) ⌝ }
+pub fn seg_seg_point_on_first(edge: Edge, p2: Vertex, q2: Vertex, best: Near) -> Near
+    requires { ⌜ Legs best ⌝ }
+    ensures { λ r. ⌜ Nearest best (segments edge p2 q2) r ⌝ }
 {
     let p1 = edge.a;
     let q1 = edge.b;
@@ -197,5 +197,5 @@ pub fn seg_seg_point_on_first(
     );
     let on_first = advance(p1, d1, at.s);
     let on_second = advance(p2, d2, at.t);
-    nearer_between(best, on_first, on_second, edge.number, on_first)
+    nearer_legs(best, on_first, on_second, edge.number, on_first)
 }

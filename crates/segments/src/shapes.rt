@@ -1,4 +1,5 @@
-// What is found on the way to a distance: a clipped part, and two places.
+// What is found on the way to a distance: a clipped part, two places, a hit with its legs.
+use profile::CollisionHit;
 
 // The part of a segment, from t0 to t1 of its length, that a box holds, if it holds any.
 pub struct Clip {
@@ -11,4 +12,11 @@ pub struct Clip {
 pub struct Places {
     pub s: f64,
     pub t: f64,
+}
+
+// A hit, and two legs: whatever is as far along both has no smaller distance.
+pub struct Near {
+    pub hit: CollisionHit,
+    pub z: f64,
+    pub r: f64,
 }

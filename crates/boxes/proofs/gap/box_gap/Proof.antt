@@ -1,9 +1,9 @@
 -- `boxes::gap::box_gap` meets its contract: a search that starts over what it meets anyway finds the same.
 use mathlib.Core.Path.{_≡_}
-use borrow.Author.Needs.{needs}
+use Rattle.ranges.proofs.Nearest.{met-first}
 use Rattle.boxes.specs.Boxes.{boxGap}
 use Rattle.boxes.proofs.Held.{edge-held}
-use Rattle.ranges.proofs.Nearest.{met-first}
+use borrow.Author.Needs.{needs}
 use Rattle.boxes.proofs.gap.box_gap.Statement.{statement}
 use Rattle.boxes.proofs.gap.box_gap.Tie as tie
 
@@ -25,43 +25,31 @@ likely-edge-requires c κs = search needs
 add-after : tie.Need-add-after
 add-after c = search needs
 
-gap-at-requires : tie.Need-gap-at-requires
-gap-at-requires c κs = search needs
+first-gap-requires : tie.Need-first-gap-requires
+first-gap-requires c κs = search needs
 
 start-over-requires : tie.Need-start-over-requires
 start-over-requires c κs = search needs
 
-gap-from-requires : tie.Need-gap-from-requires
-gap-from-requires c κs = search needs
+legless-requires : tie.Need-legless-requires
+legless-requires c κs = search needs
 
-nearer-of-requires : tie.Need-nearer-of-requires
-nearer-of-requires c κs = search needs
+gap-from-requires : tie.Need-gap-from-requires
+gap-from-requires c κs = (search needs, search needs, c .before .before .before .before .before .before .before .sides-of .ensures, c .legless .ensures .1)
+
+nearer-near-requires : tie.Need-nearer-near-requires
+nearer-near-requires c κs = (c .gap-from .ensures .1, c .before .before .before .first-gap .ensures .1)
 
 gap-from-requires-2 : tie.Need-gap-from-requires-2
-gap-from-requires-2 c κs = search needs
+gap-from-requires-2 c κs = (search needs, search needs, c .before .before .before .before .before .before .before .before .before .sides-of .ensures, c .nearer-near .ensures .legs)
 
 returns : tie.Need-returns
 unfolding boxGap
 returns c =
-    let none = c .before .before .before .before .before .before in
-    met-first _ (λ j. edge-held _ _) _ _ _ (c .before .before .before .before .before .likely-edge .ensures) _ _ _
-    (rw (none .on .ensures, none .before .vertex-at .ensures, none .before .before .infinity .ensures))
-    (c .before .before .before .before .gap-at .ensures) (c .before .before .before .start-over .ensures)
-    (c .before .before .gap-from .ensures) (c .before .nearer-of .ensures) (c .gap-from2 .ensures)
+    met-first _ (λ j. edge-held _ _) _ _ _ (c .before .before .before .before .before .before .before .likely-edge .ensures) _ _ _
+    (rw (c .before .before .before .before .before .before .before .before .on .ensures, c .before .before .before .before .before .before .before .before .before .vertex-at .ensures, c .before .before .before .before .before .before .before .before .before .before .infinity .ensures))
+    (c .before .before .before .before .before .before .first-gap .ensures .0) (c .before .before .before .before .before .start-over .ensures)
+    (rw (c .before .before .before .before .legless .ensures .0) at (c .before .before .before .gap-from .ensures .0)) (c .before .before .nearer-near .ensures .hit) (c .before .gap-from2 .ensures .0)
 
 pub box-gap-spec : {M : Type 1} → statement M
-box-gap-spec =
-    tie.close
-    (tie.spec
-    sides-of-requires
-    infinity-requires
-    vertex-at-requires
-    on-requires
-    likely-edge-requires
-    add-after
-    gap-at-requires
-    start-over-requires
-    gap-from-requires
-    nearer-of-requires
-    gap-from-requires-2
-    returns)
+box-gap-spec = tie.close (tie.spec sides-of-requires infinity-requires vertex-at-requires on-requires likely-edge-requires add-after first-gap-requires start-over-requires legless-requires gap-from-requires nearer-near-requires gap-from-requires-2 returns)

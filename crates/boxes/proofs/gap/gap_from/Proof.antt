@@ -3,21 +3,22 @@ use Prim.Native.Nat.{_≤_, _-_}
 use native.Mathlib.Omega.{arith}
 use borrow.Author.Needs.{needs}
 use Rattle.profile.proofs.Fold.{upto-more, upto-end}
+use Rattle.segments.specs.Legs.{Legs}
 use Rattle.boxes.specs.Steps.{GapFrom}
 use Rattle.boxes.proofs.gap.gap_from.Statement.{statement}
 use Rattle.boxes.proofs.gap.gap_from.Tie as tie
 
 abbrev Inv-loop : tie.InvT-loop
-Inv-loop s x sides from to best₀ k₀ best k = (k ≤ to) × GapFrom s x k₀ k best₀ best
+Inv-loop s x sides from to best₀ k₀ best k = (k ≤ to) × GapFrom s x k₀ k (best₀ .hit) (best .hit) × Legs best
 
 abbrev μ-loop : tie.MeasureT-loop
 μ-loop s x sides from to best₀ k₀ best k = to - k
 
 loop-holds : tie.Need-loop-holds Inv-loop μ-loop
-loop-holds c = (search needs, λ a e. e)
+loop-holds c = (search needs, (λ a e. e), c .before .pre .3)
 
 gap-at-requires : tie.Need-gap-at-requires Inv-loop μ-loop
-gap-at-requires c κs = search needs
+gap-at-requires c κs = (search needs, c .before .before .before .pre .2, c .before .loop .inv .2)
 
 add-k : tie.Need-add-k Inv-loop μ-loop
 add-k c = search needs
@@ -26,10 +27,14 @@ loop-less : tie.Need-loop-less Inv-loop μ-loop
 loop-less c = search needs
 
 loop-again : tie.Need-loop-again Inv-loop μ-loop
-loop-again c = (search needs, λ a e. upto-more _ _ _ (c .before .before .loop .inv .1 a e) (c .gap-at .ensures))
+loop-again c = (
+  search needs,
+  (λ a e. upto-more _ _ _ (c .before .before .loop .inv .1 a e) (c .gap-at .ensures .hit)),
+  c .gap-at .ensures .legs,
+)
 
 returns : tie.Need-returns Inv-loop μ-loop
-returns c = λ a e. upto-end _ _ _ (c .before .loop .inv .1 a e) _ (omega arith)
+returns c = ((λ a e. upto-end _ _ _ (c .before .loop .inv .1 a e) _ (omega arith)), c .before .loop .inv .2)
 
 pub gap-from-spec : {M : Type 1} → statement M
 gap-from-spec = tie.close (tie.spec Inv-loop μ-loop loop-holds gap-at-requires add-k loop-less loop-again returns)

@@ -1,37 +1,41 @@
 -- `boxes::gap::nearest_side` meets its contract.
-use borrow.Author.Needs.{needs}
+use mathlib.Core.Path.{_≡_}
 use Rattle.profile.specs.Vertices.{upto}
+use Rattle.boxes.proofs.Passed.{first-side, high-side, last-side, low-side}
 use Rattle.boxes.proofs.gap.nearest_side.Statement.{statement}
 use Rattle.boxes.proofs.gap.nearest_side.Tie as tie
 
-seg-seg-point-on-first-requires : tie.Need-seg-seg-point-on-first-requires
-seg-seg-point-on-first-requires c κs = search needs
+nearer-side-requires : tie.Need-nearer-side-requires
+nearer-side-requires c κs =
+    let known = c .before .before .pre in
+    (low-side _ _ (known .1) (known .0 .box-sides) (known .0 .edge-ranges), known .0 .legs)
 
-seg-seg-point-on-first-requires-2 : tie.Need-seg-seg-point-on-first-requires-2
-seg-seg-point-on-first-requires-2 c κs = search needs
+nearer-side-requires-2 : tie.Need-nearer-side-requires-2
+nearer-side-requires-2 c κs =
+    let known = c .before .before .before .pre in
+    (last-side _ _ (known .1) (known .0 .box-sides) (known .0 .edge-ranges), c .nearer-side .ensures .legs)
 
-seg-seg-point-on-first-requires-3 : tie.Need-seg-seg-point-on-first-requires-3
-seg-seg-point-on-first-requires-3 c κs = search needs
+nearer-side-requires-3 : tie.Need-nearer-side-requires-3
+nearer-side-requires-3 c κs =
+    let known = c .before .before .before .before .pre in
+    (high-side _ _ (known .1) (known .0 .box-sides) (known .0 .edge-ranges), c .nearer-side2 .ensures .legs)
 
-seg-seg-point-on-first-requires-4 : tie.Need-seg-seg-point-on-first-requires-4
-seg-seg-point-on-first-requires-4 c κs = search needs
+nearer-side-requires-4 : tie.Need-nearer-side-requires-4
+nearer-side-requires-4 c κs =
+    let known = c .before .before .before .before .before .pre in
+    (first-side _ _ (known .1) (known .0 .box-sides) (known .0 .edge-ranges), c .nearer-side3 .ensures .legs)
 
 returns : tie.Need-returns
 unfolding upto
-returns c =
-    rw (
-      ← c .before .before .before .seg-seg-point-on-first .ensures,
-      ← c .before .before .seg-seg-point-on-first2 .ensures,
-      ← c .before .seg-seg-point-on-first3 .ensures,
-      ← c .seg-seg-point-on-first4 .ensures,
-    )
+returns c = (
+  rw (
+    ← c .before .before .before .nearer-side .ensures .hit,
+    ← c .before .before .nearer-side2 .ensures .hit,
+    ← c .before .nearer-side3 .ensures .hit,
+    ← c .nearer-side4 .ensures .hit,
+  ),
+  c .nearer-side4 .ensures .legs,
+)
 
 pub nearest-side-spec : {M : Type 1} → statement M
-nearest-side-spec =
-    tie.close
-    (tie.spec
-    seg-seg-point-on-first-requires
-    seg-seg-point-on-first-requires-2
-    seg-seg-point-on-first-requires-3
-    seg-seg-point-on-first-requires-4
-    returns)
+nearest-side-spec = tie.close (tie.spec nearer-side-requires nearer-side-requires-2 nearer-side-requires-3 nearer-side-requires-4 returns)

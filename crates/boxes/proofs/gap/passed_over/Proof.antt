@@ -1,31 +1,43 @@
--- `boxes::gap::passed_over` meets its contract: along one axis the edge is neither nearer nor clipped.
-use borrow.Author.Needs.{needs}
+-- `boxes::gap::passed_over` meets its contract: its legs are hopeless, and no clip is left.
+use mathlib.Core.Path.{_≡_}
 use Rattle.arith.proofs.Laws.OrderHeld.{true→T}
-use Rattle.boxes.proofs.Passed.{passed-r, passed-z}
+use Rattle.ranges.proofs.Apart.{gap-plus}
+use Rattle.boxes.proofs.Passed.{passed}
+use borrow.Author.Needs.{needs}
 use Rattle.boxes.proofs.gap.passed_over.Statement.{statement}
 use Rattle.boxes.proofs.gap.passed_over.Tie as tie
 
-passed-along-requires : tie.Need-passed-along-requires
-passed-along-requires c κs = search needs
+gap-between-requires : tie.Need-gap-between-requires
+gap-between-requires c κs = search needs
+
+gap-between-requires-2 : tie.Need-gap-between-requires-2
+gap-between-requires-2 c κs = search needs
+
+misses-box-requires : tie.Need-misses-box-requires
+misses-box-requires c κs = search needs
+
+hopeless-requires : tie.Need-hopeless-requires
+hopeless-requires c κs =
+    (rw (c .before .gap-between .ensures) (gap-plus _ _), rw (c .gap-between2 .ensures) (gap-plus _ _), c .before .before .before .before .pre .legs)
 
 returns : tie.Need-returns
 returns c =
-    let start = c .before .before .before .before in
-    λ t. passed-z (start .args .least) (start .args .x) (start .args .edge) (start .good .1 .1 .1 .0 .1) (start .pre)
-    (true→T (start .good .0 .1 .1 .0 .1 .1 .0 .1)) (true→T (start .good .1 .0 .1 .1 .0 .1))
-    (true→T (start .good .1 .0 .1 .1 .1 .0 .1))
-    (c .before .passed-along .ensures) (c .if1 .taken)
-
-passed-along-requires-2 : tie.Need-passed-along-requires-2
-passed-along-requires-2 c κs = search needs
+    let start = c .before .before .before .before .before .before .before in
+    λ t. passed _ _
+    (record {
+      a-z = true→T (start .good .0 .1 .1 .0 .1 .1 .0 .1);
+      a-r = true→T (start .good .0 .1 .1 .0 .1 .1 .1 .0 .1);
+      z0 = true→T (start .good .1 .0 .1 .1 .0 .1);
+      z1 = true→T (start .good .1 .0 .1 .1 .1 .0 .1);
+      r0 = true→T (start .good .1 .0 .1 .1 .1 .1 .0 .1);
+      r1 = true→T (start .good .1 .0 .1 .1 .1 .1 .1 .0 .1);
+    })
+    (start .pre .box-sides) (start .pre .edge-ranges) _
+    (rw (c .before .before .before .before .gap-between .ensures, c .before .before .before .gap-between2 .ensures) at (c .before .before .hopeless .ensures (c .before .if1 .taken)))
+    (c .misses-box .ensures t)
 
 returns-2 : tie.Need-returns-2
-returns-2 c =
-    let start = c .before .before .before .before .before in
-    λ t. passed-r (start .args .least) (start .args .x) (start .args .edge) (start .good .1 .1 .1 .0 .1) (start .pre)
-    (true→T (start .good .0 .1 .1 .0 .1 .1 .1 .0 .1)) (true→T (start .good .1 .0 .1 .1 .1 .1 .0 .1))
-    (true→T (start .good .1 .0 .1 .1 .1 .1 .1 .0 .1))
-    (c .passed-along2 .ensures) t
+returns-2 c = λ t. absurd (true→T t)
 
 pub passed-over-spec : {M : Type 1} → statement M
-passed-over-spec = tie.close (tie.spec passed-along-requires returns passed-along-requires-2 returns-2)
+passed-over-spec = tie.close (tie.spec gap-between-requires gap-between-requires-2 hopeless-requires misses-box-requires returns returns-2)

@@ -1,8 +1,12 @@
 -- `boxes::gap::segment_aabb_distance` meets its contract: the sides are sought from the best on.
-use Rattle.boxes.specs.Boxes.{edgeBox}
-use borrow.Author.Needs.{needs}
+use mathlib.Core.Path.{_≡_, ap, subst, _∙_}
+use Rattle.arith.proofs.Laws.OrderHeld.{true→T}
+use Rattle.profile.specs.Vertices.{nearer}
+use Rattle.profile.specs.declared.shapes.CollisionHit.{CollisionHit}
 use Rattle.segments.proofs.Held.{segments-held}
 use Rattle.ranges.proofs.Nearest.{nearest-from}
+use Rattle.boxes.specs.Boxes.{edgeBox}
+use borrow.Author.Needs.{needs}
 use Rattle.boxes.proofs.gap.segment_aabb_distance.Statement.{statement}
 use Rattle.boxes.proofs.gap.segment_aabb_distance.Tie as tie
 
@@ -15,30 +19,41 @@ lerp-requires c κs = search needs
 on-requires : tie.Need-on-requires
 on-requires c κs = search needs
 
-nearer-of-requires : tie.Need-nearer-of-requires
-nearer-of-requires c κs = search needs
+legless-requires : tie.Need-legless-requires
+legless-requires c κs = search needs
+
+nearer-near-requires : tie.Need-nearer-near-requires
+nearer-near-requires c κs = (c .before .before .before .before .before .pre .legs, c .legless .ensures .1)
 
 returns : tie.Need-returns
 unfolding edgeBox
-returns c =
-    rw (
-      ← c .before .before .before .before .clip-segment .ensures,
-      c .before .before .before .if1 .taken,
-      c .nearer-of .ensures,
-      c .before .on .ensures,
-      c .before .before .lerp .ensures,
-    )
+returns c = record {
+  hit = rw (← c .before .before .before .before .before .clip-segment .ensures, c .before .before .before .before .if1 .taken)
+      (rw (c .before .legless .ensures .0, c .before .before .on .ensures, c .before .before .before .lerp .ensures) at (c .nearer-near .ensures .hit));
+  legs = c .nearer-near .ensures .legs;
+}
 
 nearest-side-requires : tie.Need-nearest-side-requires
-nearest-side-requires c κs = search needs
+nearest-side-requires c κs =
+    let start = c .before .before in
+    (start .pre,
+    record {
+      a-z = true→T (start .good .0 .1 .1 .0 .1 .1 .0 .1);
+      a-r = true→T (start .good .0 .1 .1 .0 .1 .1 .1 .0 .1);
+      z0 = true→T (start .good .1 .0 .1 .1 .0 .1);
+      z1 = true→T (start .good .1 .0 .1 .1 .1 .0 .1);
+      r0 = true→T (start .good .1 .0 .1 .1 .1 .1 .0 .1);
+      r1 = true→T (start .good .1 .0 .1 .1 .1 .1 .1 .0 .1);
+    })
 
 returns-2 : tie.Need-returns-2
 unfolding edgeBox
-returns-2 c =
-    rw (← c .before .before .clip-segment .ensures, c .before .if1 .left, c .nearest-side .ensures)
-    (nearest-from _ (λ k. segments-held _ _ _) _ _ (c .before .before .before .good .1 .1 .0 .1 .1 .0 .1) 4)
+returns-2 c = record {
+  hit = rw (← c .before .before .clip-segment .ensures, c .before .if1 .left)
+      (c .nearest-side .ensures .0
+      ∙ nearest-from _ (λ k. segments-held _ _ _) _ _ (c .before .before .before .good .1 .1 .1 .1 .0 .1 .1 .0 .1 .1 .0 .1) 4);
+  legs = c .nearest-side .ensures .1;
+}
 
 pub segment-aabb-distance-spec : {M : Type 1} → statement M
-segment-aabb-distance-spec =
-    tie.close
-    (tie.spec clip-segment-requires lerp-requires on-requires nearer-of-requires returns nearest-side-requires returns-2)
+segment-aabb-distance-spec = tie.close (tie.spec clip-segment-requires lerp-requires on-requires legless-requires nearer-near-requires returns nearest-side-requires returns-2)

@@ -7,12 +7,12 @@ use Rattle.segments.proofs.segment.point_segment.Tie as tie
 closest-point-requires : tie.Need-closest-point-requires
 closest-point-requires c κs = search needs
 
-nearer-between-requires : tie.Need-nearer-between-requires
-nearer-between-requires c κs = search needs
+nearer-legs-requires : tie.Need-nearer-legs-requires
+nearer-legs-requires c κs = search needs
 
 returns : tie.Need-returns
 unfolding closest
-returns c = rw (c .nearer-between .ensures, c .before .closest-point .ensures)
+returns c = rw (← c .before .closest-point .ensures) (c .nearer-legs .ensures)
 
 pub point-segment-spec : {M : Type 1} → statement M
-point-segment-spec = tie.close (tie.spec closest-point-requires nearer-between-requires returns)
+point-segment-spec = tie.close (tie.spec closest-point-requires nearer-legs-requires returns)

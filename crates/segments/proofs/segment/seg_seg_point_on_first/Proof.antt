@@ -28,16 +28,13 @@ advance-requires c κs = search needs
 advance-requires-2 : tie.Need-advance-requires-2
 advance-requires-2 c κs = search needs
 
-nearer-between-requires : tie.Need-nearer-between-requires
-nearer-between-requires c κs = search needs
+nearer-legs-requires : tie.Need-nearer-legs-requires
+nearer-legs-requires c κs = c .before .before .before .before .before .before .before .before .before .before .before .before .before .before .before .before .before .before .before .before .before .before .pre
 
 returns : tie.Need-returns
 unfolding segments
 returns c =
     rw (
-      c .nearer-between .ensures,
-      c .before .advance2 .ensures,
-      c .before .before .advance .ensures,
       ← c .before .before .before .before .before .before .before .before .dot2 .ensures,
       ← c .before .before .before .before .before .before .before .dot22 .ensures,
       ← c .before .before .before .before .before .before .dot23 .ensures,
@@ -45,18 +42,7 @@ returns c =
       ← c .before .before .before .before .dot25 .ensures,
       ← c .before .before .before .closest-places .ensures,
     )
+    (rw (c .before .advance2 .ensures, c .before .before .advance .ensures) at (c .nearer-legs .ensures))
 
 pub seg-seg-point-on-first-spec : {M : Type 1} → statement M
-seg-seg-point-on-first-spec =
-    tie.close
-    (tie.spec
-    dot2-requires
-    dot2-requires-2
-    dot2-requires-3
-    dot2-requires-4
-    dot2-requires-5
-    closest-places-requires
-    advance-requires
-    advance-requires-2
-    nearer-between-requires
-    returns)
+seg-seg-point-on-first-spec = tie.close (tie.spec dot2-requires dot2-requires-2 dot2-requires-3 dot2-requires-4 dot2-requires-5 closest-places-requires advance-requires advance-requires-2 nearer-legs-requires returns)
