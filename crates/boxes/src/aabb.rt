@@ -163,11 +163,11 @@ fn runs_through(s: &[f64], x: Aabb, gap: f64) -> bool
 }
 
 // No vertex lies well inside, and no probe is deep: the gap tells, or an edge that runs through.
-fn box_apart(s: &[f64], x: Aabb, deep: CollisionHit) -> CollisionHit
+fn box_apart(s: &[f64], x: Aabb, hint: usize, deep: CollisionHit) -> CollisionHit
     requires { ⌜ 3 ≤ count (now s) ⌝ }
     ensures { λ r. ⌜ r ≡ boxApart (now (s .entry)) x deep ⌝ }
 {
-    let gap = box_gap(s, x);
+    let gap = box_gap(s, x, hint);
     let gap_witness = gap.witness;
     let beside = CollisionHit {
         distance: 0.0,
@@ -182,8 +182,9 @@ fn box_apart(s: &[f64], x: Aabb, deep: CollisionHit) -> CollisionHit
     }
 }
 
-// With a vertex well inside, or a probe deeper than 1e-9, the gap is not read.
-pub fn box_distance(s: &[f64], x: Aabb) -> CollisionHit
+// With a vertex well inside, or a probe deeper than 1e-9, the gap is not read. The hint, an edge that is likely
+// the nearest, appears in no answer.
+pub fn box_distance_near(s: &[f64], x: Aabb, hint: usize) -> CollisionHit
     requires { ⌜ 3 ≤ count (now s) ⌝ }
     ensures { λ r. ⌜ r ≡ boxDistance (now (s .entry)) x ⌝ }
 {
@@ -198,5 +199,13 @@ pub fn box_distance(s: &[f64], x: Aabb) -> CollisionHit
     if deep.distance < -INTERIOR {
         return deep;
     }
-    box_apart(s, x, deep)
+    box_apart(s, x, hint, deep)
+}
+
+pub fn box_distance(s: &[f64], x: Aabb) -> CollisionHit
+    requires { ⌜ 3 ≤ count (now s) ⌝ }
+    ensures { λ r. ⌜ r ≡ boxDistance (now (s .entry)) x ⌝ }
+{
+    let n = s.len();
+    box_distance_near(s, x, n)
 }

@@ -20,7 +20,7 @@ use profile::vertex_at;
 use ranges::Range;
 use ranges::Sides;
 use ranges::gap_between;
-use ranges::likely_edge;
+use ranges::likely_edge_or;
 use ranges::misses_box;
 use ranges::ranges_of;
 use ranges::sides_of;
@@ -138,7 +138,7 @@ fn first_gap(s: &[f64], x: Aabb, sides: Sides, k: usize, none: CollisionHit) -> 
     segment_aabb_distance(edge, x, sides, g, legless(none))
 }
 
-pub fn box_gap(s: &[f64], x: Aabb) -> CollisionHit
+pub fn box_gap(s: &[f64], x: Aabb, hint: usize) -> CollisionHit
     requires { ⌜ 3 ≤ count (now s) ⌝ }
     ensures { λ r. ⌜ r ≡ boxGap (now (s .entry)) x ⌝ }
 {
@@ -148,7 +148,7 @@ pub fn box_gap(s: &[f64], x: Aabb) -> CollisionHit
         distance: arith::infinity(),
         witness: on(0, vertex_at(s, 0)),
     };
-    let k = likely_edge(s, x);
+    let k = likely_edge_or(s, x, hint);
     let after = k + 1;
     let first = first_gap(s, x, sides, k, none);
     let start = start_over(first.hit, none);

@@ -3,3 +3,4 @@ mod aabb;
 mod gap;
 
 pub use aabb::box_distance;
+pub use aabb::box_distance_near;

@@ -6,8 +6,8 @@ mod range;
 mod search;
 mod shapes;
 
-pub use likely::likely_edge;
 pub use likely::likely_edge_at;
+pub use likely::likely_edge_or;
 pub use passed::far_from;
 pub use passed::gap_between;
 pub use passed::misses_box;

@@ -15,7 +15,7 @@ fn rough_gap(a: Vertex, b: Vertex, x: Aabb) -> f64 {
     dz * dz + dr * dr
 }
 
-pub fn likely_edge(s: &[f64], x: Aabb) -> usize
+fn likely_edge(s: &[f64], x: Aabb) -> usize
     requires { ⌜ 3 ≤ count (now s) ⌝ }
     ensures { λ r. ⌜ r < count (now (s .entry)) ⌝ }
 {
@@ -32,6 +32,17 @@ pub fn likely_edge(s: &[f64], x: Aabb) -> usize
         k += 1;
     }
     near
+}
+
+// The hint, if it is an edge.
+pub fn likely_edge_or(s: &[f64], x: Aabb, hint: usize) -> usize
+    requires { ⌜ 3 ≤ count (now s) ⌝ }
+    ensures { λ r. ⌜ r < count (now (s .entry)) ⌝ }
+{
+    if hint < s.len() / 2 {
+        return hint;
+    }
+    likely_edge(s, x)
 }
 
 // How far a vertex lies from the point, squared and roughly.

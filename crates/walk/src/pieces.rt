@@ -9,7 +9,7 @@ use super::shapes::Measured;
 use super::shapes::Piece;
 use super::shapes::Spans;
 use bands::RadialBand;
-use boxes::box_distance;
+use boxes::box_distance_near;
 use profile::Aabb;
 
 pub fn whole_width(b: RadialBand) -> Piece
@@ -45,12 +45,12 @@ fn variation_of(spans: Spans) -> f64
 }
 
 // The distance of the piece's box, and the piece's variation.
-pub fn measure(s: &[f64], b: RadialBand, p: Piece, ends: Ends) -> Measured
+pub fn measure(s: &[f64], b: RadialBand, p: Piece, ends: Ends, hint: usize) -> Measured
     requires { ⌜ Measurable (now s) b p ends ⌝ }
     ensures { λ r. ⌜ r ≡ measure (now (s .entry)) b p ⌝ }
 {
     let spans = spans_of(b, p, ends);
-    let hit = box_distance(s, box_of(p, spans));
+    let hit = box_distance_near(s, box_of(p, spans), hint);
     Measured {
         hit,
         variation: variation_of(spans),

@@ -107,7 +107,7 @@ fn walk_with(s: &[f64], b: RadialBand, tol: f64, cap: usize, intervals: usize) -
         let z0 = waiting[at];
         let z1 = waiting[at + 1];
         let p = Piece { z0, z1 };
-        let m = measure(s, b, p, ends);
+        let m = measure(s, b, p, ends, best.witness.edge);
         let halve = halved(tol, m, best, p);
         n = push_halves(&mut waiting, last, p, halve);
         ends = next_ends(&mut lefts, last, b, p, ends, halve);

@@ -19,8 +19,8 @@ vertex-at-requires c κs = search needs
 on-requires : tie.Need-on-requires
 on-requires c κs = search needs
 
-likely-edge-requires : tie.Need-likely-edge-requires
-likely-edge-requires c κs = search needs
+likely-edge-or-requires : tie.Need-likely-edge-or-requires
+likely-edge-or-requires c κs = search needs
 
 add-after : tie.Need-add-after
 add-after c = search needs
@@ -46,10 +46,10 @@ gap-from-requires-2 c κs = (search needs, search needs, c .before .before .befo
 returns : tie.Need-returns
 unfolding boxGap
 returns c =
-    met-first _ (λ j. edge-held _ _) _ _ _ (c .before .before .before .before .before .before .before .likely-edge .ensures) _ _ _
+    met-first _ (λ j. edge-held _ _) _ _ _ (c .before .before .before .before .before .before .before .likely-edge-or .ensures) _ _ _
     (rw (c .before .before .before .before .before .before .before .before .on .ensures, c .before .before .before .before .before .before .before .before .before .vertex-at .ensures, c .before .before .before .before .before .before .before .before .before .before .infinity .ensures))
     (c .before .before .before .before .before .before .first-gap .ensures .0) (c .before .before .before .before .before .start-over .ensures)
     (rw (c .before .before .before .before .legless .ensures .0) at (c .before .before .before .gap-from .ensures .0)) (c .before .before .nearer-near .ensures .hit) (c .before .gap-from2 .ensures .0)
 
 pub box-gap-spec : {M : Type 1} → statement M
-box-gap-spec = tie.close (tie.spec sides-of-requires infinity-requires vertex-at-requires on-requires likely-edge-requires add-after first-gap-requires start-over-requires legless-requires gap-from-requires nearer-near-requires gap-from-requires-2 returns)
+box-gap-spec = tie.close (tie.spec sides-of-requires infinity-requires vertex-at-requires on-requires likely-edge-or-requires add-after first-gap-requires start-over-requires legless-requires gap-from-requires nearer-near-requires gap-from-requires-2 returns)

@@ -10,8 +10,8 @@ spans-of-requires c κs = search needs
 box-of-requires : tie.Need-box-of-requires
 box-of-requires c κs = search needs
 
-box-distance-requires : tie.Need-box-distance-requires
-box-distance-requires c κs = search needs
+box-distance-near-requires : tie.Need-box-distance-near-requires
+box-distance-near-requires c κs = search needs
 
 variation-of-requires : tie.Need-variation-of-requires
 variation-of-requires c κs = search needs
@@ -20,7 +20,7 @@ returns : tie.Need-returns
 unfolding pieceBox variation
 returns c =
     rw (
-      c .before .box-distance .ensures,
+      c .before .box-distance-near .ensures,
       c .before .before .box-of .ensures,
       c .variation-of .ensures,
       c .before .before .before .spans-of .ensures,
@@ -32,6 +32,6 @@ measure-spec =
     (tie.spec
     spans-of-requires
     box-of-requires
-    box-distance-requires
+    box-distance-near-requires
     variation-of-requires
     returns)
