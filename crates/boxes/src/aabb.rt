@@ -11,6 +11,7 @@ use super::gap::box_gap;
 use points::result_of;
 use probes::Probes;
 use probes::deeper_probe;
+use probes::none_inside;
 use probes::odd_probes;
 use profile::Aabb;
 use profile::CollisionHit;
@@ -62,20 +63,21 @@ fn box_penetration(s: &[f64], x: Aabb, witness: Witness) -> CollisionHit
     let c11 = Vertex { z: x.z1, r: x.r1 };
     let c01 = Vertex { z: x.z0, r: x.r1 };
     let centre = middle_of(c00, c11);
-    let odd = odd_probes(
-        s,
-        Probes {
-            centre,
-            c00,
-            c10,
-            c11,
-            c01,
-        },
-    );
+    let at = Probes {
+        centre,
+        c00,
+        c10,
+        c11,
+        c01,
+    };
+    let odd = odd_probes(s, at);
     let none = CollisionHit {
         distance: 0.0,
         witness: witness,
     };
+    if none_inside(at, odd) {
+        return none;
+    }
     let start = deeper_probe(s, centre, odd.centre, none);
     let first = deeper_probe(s, c00, odd.c00, start);
     let second = deeper_probe(s, c10, odd.c10, first);

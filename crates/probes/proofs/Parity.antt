@@ -2,14 +2,14 @@
 use Prim.Native.Nat.{ℕ, _+_}
 use mathlib.Core.Bool.{true, false}
 use mathlib.Core.List.{List}
-use mathlib.Core.Path.{_≡_, refl, subst}
+use mathlib.Core.Path.{_≡_, refl, subst, sym, _∙_}
 use lib.Ieee.{Float}
 use Rattle.arith.specs.F64.{_≼_, e-8}
-use Rattle.profile.specs.Vertices.{edgeAt, upto}
+use Rattle.profile.specs.Vertices.{count, edgeAt, upto}
 use Rattle.profile.specs.declared.shapes.Vertex.{Vertex}
 use Rattle.profile.proofs.Fold.{upto-more}
 use Rattle.points.specs.Points.{inSection, pointInside}
-use Rattle.probes.specs.Probes.{OddNext, OddProbes}
+use Rattle.probes.specs.Probes.{AllOutside, OddNext, OddProbes}
 use Rattle.probes.specs.declared.shapes.Odd.{Odd}
 use Rattle.probes.specs.declared.shapes.Probes.{Probes}
 
@@ -37,3 +37,21 @@ odd-inside s p e = rw e refl
 pub off-axis : (s : List Float) (p : Vertex) → pointInside s p ≡ false → (p .r ≼ e-8) ≡ false → inSection s p ≡ false
 unfolding inSection
 off-axis s p e l = rw (e, l)
+
+-- none of five probes lies inside
+pub record NoneInside (s : List Float) (at : Probes) : Type 0 where
+  pub centre : inSection s (at .centre) ≡ false
+  pub c00 : inSection s (at .c00) ≡ false
+  pub c10 : inSection s (at .c10) ≡ false
+  pub c11 : inSection s (at .c11) ≡ false
+  pub c01 : inSection s (at .c01) ≡ false
+
+pub all-outside : {s : List Float} {at : Probes} {odd : Odd} → OddProbes s at (count s) odd → AllOutside at odd → NoneInside s at
+unfolding pointInside
+all-outside h o = record {
+  centre = off-axis _ _ (sym (h .centre) ∙ o .centre) (o .off-axis .centre);
+  c00 = off-axis _ _ (sym (h .c00) ∙ o .c00) (o .off-axis .c00);
+  c10 = off-axis _ _ (sym (h .c10) ∙ o .c10) (o .off-axis .c10);
+  c11 = off-axis _ _ (sym (h .c11) ∙ o .c11) (o .off-axis .c11);
+  c01 = off-axis _ _ (sym (h .c01) ∙ o .c01) (o .off-axis .c01);
+}

@@ -4,6 +4,7 @@ use mathlib.Core.Bool.{Bool, false}
 use mathlib.Core.List.{List}
 use mathlib.Core.Path.{_≡_}
 use lib.Ieee.{Float, unlike}
+use Rattle.arith.specs.F64.{_≼_, e-8}
 use Rattle.profile.specs.Vertices.{vertexAt, endAt, upto}
 use Rattle.profile.specs.declared.shapes.Edge.{Edge}
 use Rattle.profile.specs.declared.shapes.Vertex.{Vertex}
@@ -30,3 +31,20 @@ pub record OddProbes (s : List Float) (at : Probes) (n : ℕ) (odd : Odd) : Type
   pub c10 : odd .c10 ≡ crossed s (at .c10) n
   pub c11 : odd .c11 ≡ crossed s (at .c11) n
   pub c01 : odd .c01 ≡ crossed s (at .c01) n
+
+-- no probe's radius is at most 1e-8
+pub record OffAxis (at : Probes) : Type 0 where
+  pub centre : (at .centre .r ≼ e-8) ≡ false
+  pub c00 : (at .c00 .r ≼ e-8) ≡ false
+  pub c10 : (at .c10 .r ≼ e-8) ≡ false
+  pub c11 : (at .c11 .r ≼ e-8) ≡ false
+  pub c01 : (at .c01 .r ≼ e-8) ≡ false
+
+-- and none is odd
+pub record AllOutside (at : Probes) (odd : Odd) : Type 0 where
+  pub off-axis : OffAxis at
+  pub centre : odd .centre ≡ false
+  pub c00 : odd .c00 ≡ false
+  pub c10 : odd .c10 ≡ false
+  pub c11 : odd .c11 ≡ false
+  pub c01 : odd .c01 ≡ false

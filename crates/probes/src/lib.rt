@@ -4,6 +4,7 @@ mod reach;
 mod shapes;
 
 pub use probes::deeper_probe;
+pub use probes::none_inside;
 pub use probes::odd_probes;
 pub use shapes::Odd;
 pub use shapes::Probes;

@@ -1,10 +1,11 @@
 // The even-odd rule at five probes at once, and the depth at one of them.
 ghost use mathlib.Core.Path.{_≡_};
+ghost use mathlib.Core.Bool.{true};
 ghost use Prim.Native.Nat.{_<_, _≤_};
 ghost use lib.Ieee.{unlike};
 ghost use Rattle.profile.specs.Vertices.{count, vertexAt, endAt, edgeAt, nearer};
 ghost use Rattle.points.specs.Points.{crosses, pointInside, pointDistance};
-ghost use Rattle.probes.specs.Probes.{OddNext, OddProbes};
+ghost use Rattle.probes.specs.Probes.{AllOutside, OddNext, OddProbes, OffAxis};
 ghost use Rattle.probes.specs.Radii.{Reaches};
 use super::reach::reach_of;
 use super::reach::unparted;
@@ -25,6 +26,28 @@ fn odd_after(p: Vertex, edge: Edge, odd: bool) -> bool
     ensures { λ r. ⌜ r ≡ unlike odd (crosses p (edge .a) (edge .b)) ⌝ }
 {
     odd != crosses(p, edge.a, edge.b)
+}
+
+// No probe is as near to the axis as an axis edge counts.
+fn off_axis(at: Probes) -> bool
+    ensures { λ r. ⌜ (r ≡ true → OffAxis at) ⌝ }
+{
+    if at.centre.r <= 1e-8 {
+        return false;
+    }
+    if at.c00.r <= 1e-8 {
+        return false;
+    }
+    if at.c10.r <= 1e-8 {
+        return false;
+    }
+    if at.c11.r <= 1e-8 {
+        return false;
+    }
+    if at.c01.r <= 1e-8 {
+        return false;
+    }
+    true
 }
 
 // One edge more.
@@ -71,6 +94,28 @@ pub fn odd_probes(s: &[f64], at: Probes) -> Odd
         k += 1;
     }
     odd
+}
+
+// No probe lies inside: none is odd, and none as near to the axis as an axis edge counts.
+pub fn none_inside(at: Probes, odd: Odd) -> bool
+    ensures { λ r. ⌜ (r ≡ true → AllOutside at odd) ⌝ }
+{
+    if odd.centre {
+        return false;
+    }
+    if odd.c00 {
+        return false;
+    }
+    if odd.c10 {
+        return false;
+    }
+    if odd.c11 {
+        return false;
+    }
+    if odd.c01 {
+        return false;
+    }
+    off_axis(at)
 }
 
 // The section may be deeper at p, of which the even-odd rule is known. Outside it is not below 0, and needs
