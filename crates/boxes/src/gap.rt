@@ -22,6 +22,7 @@ use ranges::Sides;
 use ranges::gap_between;
 use ranges::likely_edge_or;
 use ranges::misses_box;
+use ranges::passed_along;
 use ranges::ranges_of;
 use ranges::sides_of;
 use ranges::start_over;
@@ -101,12 +102,25 @@ fn passed_over(edge: Edge, x: Aabb, sides: Sides, g: Sides, best: Near) -> bool
     false
 }
 
+// The same, as z alone tells of most edges.
+fn passed_along_z(edge: Edge, x: Aabb, sides: Sides, best: Near) -> bool
+    requires { ⌜ sides ≡ sidesOf x ⌝ }
+    ensures { λ r. ⌜ (r ≡ true → (edgeBox x edge .distance ≺ best .hit .distance) ≡ false) ⌝ }
+{
+    let a = edge.a;
+    let b = edge.b;
+    passed_along(best.hit.distance, a.z, b.z, x.z0, x.z1, sides.z)
+}
+
 // Edge k may be nearer to the box.
 fn gap_at(s: &[f64], x: Aabb, sides: Sides, k: usize, best: Near) -> Near
     requires { ⌜ (k < count (now s)) × (sides ≡ sidesOf x) × Legs best ⌝ }
     ensures { λ r. ⌜ Nearest best (edgeBox x (edgeAt (now (s .entry)) k)) r ⌝ }
 {
     let edge = edge_at(s, k);
+    if passed_along_z(edge, x, sides, best) {
+        return best;
+    }
     let g = ranges_of(edge.a, edge.b);
     if passed_over(edge, x, sides, g, best) {
         return best;

@@ -18,6 +18,7 @@ use Rattle.arith.proofs.Laws.OrderHeld.{T→true, held-number, not-less-nan, nu
 use Rattle.arith.proofs.Laws.Sizes.{zero-number}
 use Rattle.profile.specs.declared.shapes.Edge.{Edge}
 use Rattle.profile.specs.declared.shapes.Vertex.{Vertex}
+use Rattle.profile.proofs.Steps.{pick}
 use Rattle.segments.specs.Legs.{Hopeless, Reaches}
 use Rattle.segments.specs.Segments.{dot, minus, segments}
 use Rattle.segments.proofs.Legs.{not-below-itself, over-not-below, over-zero, reaches-nothing, reaches-size}
@@ -83,6 +84,12 @@ module _ (g h : Range) where
 
   abbrev under : Float
   under = h .lo ⊖ g .hi
+
+  pub gap-held : T (fits binary64 (gapBetween g h))
+  unfolding gapBetween
+  gap-held =
+      pick (λ u. T (fits binary64 u)) (𝟘 ≺ over) (λ t. sub-fits binary64 _ _)
+      (λ t. pick (λ u. T (fits binary64 u)) (𝟘 ≺ under) (λ t. sub-fits binary64 _ _) (λ t. number-held binary64 𝟘 zero-number))
 
   pub gap-plus : (gapBetween g h ≺ 𝟘) ≡ false
   unfolding gapBetween

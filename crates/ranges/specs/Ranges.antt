@@ -1,6 +1,6 @@
 -- Where the computed points of a segment lie along one axis, and those of a box's four sides; and when one side of a box alone
 -- leaves nothing of a segment. Only what functions below the entry points promise each other: no answer is defined by it.
-use mathlib.Core.Bool.{Bool, false, cond, _||_}
+use mathlib.Core.Bool.{Bool, true, false, cond, _||_}
 use mathlib.Core.Path.{_≡_}
 use lib.Dec.{T}
 use lib.Ieee.{Float, binary64, fits, neg}
@@ -60,3 +60,8 @@ sideMisses p q =
 -- one of the two sides across one axis does so: the segment runs from a to b, the box from lo to hi
 unfoldable pub missesAlong : Float → Float → Float → Float → Bool
 missesAlong a b lo hi = sideMisses (neg (b ⊖ a)) (a ⊖ lo) || sideMisses (b ⊖ a) (hi ⊖ a)
+
+-- along this axis the segment lies as far from h as this, and one of the two sides leaves nothing of it
+pub record PassedAlong (least a b lo hi : Float) (h : Range) : Type 0 where
+  pub far : (least ≼ gapBetween (rangeOf a b) h) ≡ true
+  pub missed : missesAlong a b lo hi ≡ true

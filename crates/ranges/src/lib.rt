@@ -11,6 +11,7 @@ pub use likely::likely_edge_or;
 pub use passed::far_from;
 pub use passed::gap_between;
 pub use passed::misses_box;
+pub use passed::passed_along;
 pub use range::ranges_of;
 pub use range::sides_of;
 pub use search::start_over;

@@ -7,7 +7,7 @@ use profile::Aabb;
 use profile::Vertex;
 
 // The points a + (b - a) s, for s from 0 to 1.
-fn range_of(a: f64, b: f64) -> Range
+pub fn range_of(a: f64, b: f64) -> Range
     ensures { λ r. ⌜ r ≡ rangeOf a b ⌝ }
 {
     let d = b - a;

@@ -38,7 +38,7 @@ gap-from-requires : tie.Need-gap-from-requires
 gap-from-requires c κs = (search needs, search needs, c .before .before .before .before .before .before .before .sides-of .ensures, c .legless .ensures .1)
 
 nearer-near-requires : tie.Need-nearer-near-requires
-nearer-near-requires c κs = (c .gap-from .ensures .1, c .before .before .before .first-gap .ensures .1)
+nearer-near-requires c κs = search (c .gap-from .ensures .1, c .before .before .before .first-gap .ensures .1)
 
 gap-from-requires-2 : tie.Need-gap-from-requires-2
 gap-from-requires-2 c κs = (search needs, search needs, c .before .before .before .before .before .before .before .before .before .sides-of .ensures, c .nearer-near .ensures .legs)

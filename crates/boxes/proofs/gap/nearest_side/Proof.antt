@@ -8,12 +8,16 @@ use Rattle.boxes.proofs.gap.nearest_side.Tie as tie
 nearer-side-requires : tie.Need-nearer-side-requires
 nearer-side-requires c κs =
     let known = c .before .before .pre in
-    (low-side _ _ (known .1) (known .0 .box-sides) (known .0 .edge-ranges), known .0 .legs)
+    let low = low-side _ _ (known .1) (known .0 .box-sides) (known .0 .edge-ranges) in
+    let last = last-side _ _ (known .1) (known .0 .box-sides) (known .0 .edge-ranges) in
+    (search (low, last), known .0 .legs)
 
 nearer-side-requires-2 : tie.Need-nearer-side-requires-2
 nearer-side-requires-2 c κs =
     let known = c .before .before .before .pre in
-    (last-side _ _ (known .1) (known .0 .box-sides) (known .0 .edge-ranges), c .nearer-side .ensures .legs)
+    let low = low-side _ _ (known .1) (known .0 .box-sides) (known .0 .edge-ranges) in
+    let last = last-side _ _ (known .1) (known .0 .box-sides) (known .0 .edge-ranges) in
+    (search (low, last), c .nearer-side .ensures .legs)
 
 nearer-side-requires-3 : tie.Need-nearer-side-requires-3
 nearer-side-requires-3 c κs =
