@@ -2,3 +2,4 @@
 pub mod Flags
 pub mod Outside
 pub mod Edges
+pub mod Window

@@ -1,5 +1,5 @@
-// Convex body distance: the gap over all pairs of edges, the depth at the vertices of both, and the
-// search for a proper crossing.
+// Convex body distance: the depth at the vertices of both, the search for a proper crossing, and with the
+// gap the whole.
 ghost use mathlib.Core.Path.{_≡_};
 ghost use mathlib.Core.Bool.{not, _&&_};
 ghost use lib.Ieee.{neg};
@@ -8,16 +8,16 @@ ghost use Rattle.arith.specs.F64.{_≺_, 𝟘, e-9};
 ghost use Rattle.arith.specs.Num as num;
 ghost use Rattle.profile.specs.Vertices as profile;
 ghost use Rattle.profile.specs.Vertices.{hit, count, vertexAt, endAt, edgeAt, nearer, nearestOf};
-ghost use Rattle.segments.specs.Segments.{closest, segments};
+ghost use Rattle.segments.specs.Segments.{closest};
 ghost use Rattle.points.specs.Points.{pointDistance};
-ghost use Rattle.convex.specs.Convex.{convexRow, convexGap, orient, pointInConvex, convexNear, signedDistanceConvex};
+ghost use Rattle.convex.specs.Convex.{orient, pointInConvex, convexNear, signedDistanceConvex};
 ghost use Rattle.convex.specs.Convex.{convexPenetration, properCross, anyCross, convexDistance};
+use super::gap::convex_gap;
 use points::deeper_at;
 use points::result_of;
 use profile::CollisionHit;
 use profile::Vertex;
 use profile::Witness;
-use profile::edge_at;
 use profile::end_at;
 use profile::nearer_of;
 use profile::on;
@@ -26,48 +26,6 @@ use segments::BOUNDARY;
 use segments::INTERIOR;
 use segments::closer_between;
 use segments::closest_point;
-use segments::seg_seg_point_on_first;
-
-// Edge j of the section may be nearer to the edge from a to b.
-fn nearer_edge(s: &[f64], j: usize, a: Vertex, b: Vertex, best: CollisionHit) -> CollisionHit
-    requires { ⌜ j < count (now s) ⌝ }
-    ensures { λ r. ⌜ r ≡ nearer best (segments (edgeAt (now (s .entry)) j) a b) ⌝ }
-{
-    seg_seg_point_on_first(edge_at(s, j), a, b, best)
-}
-
-fn convex_row(c: &[f64], s: &[f64], i: usize, start: CollisionHit) -> CollisionHit
-    requires { ⌜ i < count (now c) ⌝ }
-    ensures { λ r. ⌜ r ≡ convexRow (now (c .entry)) (now (s .entry)) i start ⌝ }
-{
-    let a = vertex_at(c, i);
-    let b = end_at(c, i);
-    let m = s.len() / 2;
-    let mut best = start;
-    let mut j = 0;
-    while j < m {
-        best = nearer_edge(s, j, a, b, best);
-        j += 1;
-    }
-    best
-}
-
-fn convex_gap(c: &[f64], s: &[f64]) -> CollisionHit
-    requires { ⌜ 3 ≤ count (now s) ⌝ }
-    ensures { λ r. ⌜ r ≡ convexGap (now (c .entry)) (now (s .entry)) ⌝ }
-{
-    let n = c.len() / 2;
-    let mut best = CollisionHit {
-        distance: arith::infinity(),
-        witness: on(0, vertex_at(s, 0)),
-    };
-    let mut i = 0;
-    while i < n {
-        best = convex_row(c, s, i, best);
-        i += 1;
-    }
-    best
-}
 
 pub fn orient(a: Vertex, b: Vertex, p: Vertex) -> f64
     ensures { λ r. ⌜ r ≡ orient a b p ⌝ }

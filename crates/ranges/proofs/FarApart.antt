@@ -61,15 +61,15 @@ clamped-share : (x : Float) → T (fits binary64 x) → Share binary64 (unitClam
 clamped-share x X =
     pick (Share binary64) (x ≺ 𝟘) (λ h. zero-share) (λ h. pick (Share binary64) (𝟙 ≺ x) (λ k. one-share) (λ k. neither x X h k))
 
-record Shares (p : Places) : Type 0 where
-  s : Share binary64 (p .s)
-  t : Share binary64 (p .t)
+pub record Shares (p : Places) : Type 0 where
+  pub s : Share binary64 (p .s)
+  pub t : Share binary64 (p .t)
 
 module _ (a b c e f : Float) where
   quotient : (x y : Float) → Share binary64 (unitClamp (x ⊘ y))
   quotient x y = clamped-share (x ⊘ y) (div-fits binary64 x y)
 
-  places-shares : Shares (closestPlaces a b c e f)
+  pub places-shares : Shares (closestPlaces a b c e f)
   unfolding closestPlaces
   places-shares =
       pick Shares (a ≼ e-24)

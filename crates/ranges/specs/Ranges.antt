@@ -31,6 +31,10 @@ sidesOf x = record { z = sidesRange (x .z0) (x .z1); r = sidesRange (x .r0) (x .
 unfoldable pub farApart : Float → Range → Range → Bool
 farApart least g h = (least ≼ g .lo ⊖ h .hi) || (least ≼ h .lo ⊖ g .hi)
 
+-- what lies between two ranges, as rounded: 0 where they may meet
+unfoldable pub gapOf : Range → Range → Float
+gapOf g h = cond (𝟘 ≺ g .lo ⊖ h .hi) (g .lo ⊖ h .hi) (cond (𝟘 ≺ h .lo ⊖ g .hi) (h .lo ⊖ g .hi) 𝟘)
+
 -- one side of a box, p and q as `clipSide` has them, alone leaves nothing of a segment
 unfoldable pub sideMisses : Float → Float → Bool
 sideMisses p q =

@@ -1,14 +1,18 @@
-// Where the computed points of edges and of a box's sides lie along one axis, so that most edges need no
-// look.
+// Where the computed points of edges, of a box's sides and of a polygon lie along each axis, so that most
+// edges need no look.
+mod hull;
 mod likely;
 mod passed;
 mod range;
 mod search;
 mod shapes;
 
+pub use hull::edge_sides;
+pub use hull::hull_of;
 pub use likely::likely_edge;
 pub use likely::likely_edge_at;
 pub use passed::far_from;
+pub use passed::far_off;
 pub use passed::passed_along;
 pub use range::sides_of;
 pub use search::start_over;

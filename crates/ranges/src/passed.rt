@@ -1,9 +1,12 @@
-// Whether an edge may be passed over: along one axis it is neither nearer than the best nor clipped.
+// Whether an edge may be passed over: along one axis, or by both, it is no nearer than the best, nor clipped.
 ghost use mathlib.Core.Path.{_≡_};
 ghost use mathlib.Core.Bool.{true};
-ghost use Rattle.ranges.specs.Ranges.{range, rangeOf, farApart, sideMisses, missesAlong, passedAlong};
+ghost use Rattle.ranges.specs.Ranges.{range, rangeOf, farApart, gapOf, sideMisses, missesAlong, passedAlong};
+ghost use Rattle.ranges.specs.Hull.{FarOff};
 use super::range::range_of;
 use super::shapes::Range;
+use super::shapes::Sides;
+use profile::Vertex;
 
 fn far_apart(least: f64, g: Range, h: Range) -> bool
     ensures { λ r. ⌜ r ≡ farApart least g h ⌝ }
@@ -29,6 +32,35 @@ pub fn far_from(least: f64, a: f64, b: f64, x: f64) -> bool
         }
     }
     false
+}
+
+// What lies between the points of a segment from a to b and the range, along one axis.
+fn gap_along(a: f64, b: f64, h: Range) -> f64
+    ensures { λ r. ⌜ r ≡ gapOf (rangeOf a b) h ⌝ }
+{
+    let g = range_of(a, b);
+    let over = g.lo - h.hi;
+    if over > 0.0 {
+        return over;
+    }
+    let under = h.lo - g.hi;
+    if under > 0.0 {
+        return under;
+    }
+    0.0
+}
+
+// The points of the segment from a to b lie at least this far from those in `sides`: the gap along z alone
+// says so, or the square of the hypot of both gaps.
+pub fn far_off(a: Vertex, b: Vertex, sides: Sides, least: f64) -> bool
+    ensures { λ r. ⌜ (r ≡ true → FarOff least a b sides) ⌝ }
+{
+    let dz = gap_along(a.z, b.z, sides.z);
+    if dz >= least {
+        return true;
+    }
+    let dr = gap_along(a.r, b.r, sides.r);
+    dz * dz + dr * dr > least * least * 1.0000000000001 + 1e-300
 }
 
 // This side of the box alone leaves nothing of a segment.

@@ -6,7 +6,7 @@ pub struct Range {
     pub hi: f64,
 }
 
-// Where the points of a box's sides lie.
+// Where the points of a box's sides, of an edge or of a polygon lie.
 pub struct Sides {
     pub z: Range,
     pub r: Range,
