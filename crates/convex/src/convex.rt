@@ -1,7 +1,7 @@
 // Convex body distance: the depth at the vertices of both, the search for a proper crossing, and with the
 // gap the whole.
 ghost use mathlib.Core.Path.{_≡_};
-ghost use mathlib.Core.Bool.{not, _&&_};
+ghost use mathlib.Core.Bool.{true, false, not, _&&_};
 ghost use lib.Ieee.{neg};
 ghost use Prim.Native.Nat.{_<_, _≤_};
 ghost use Rattle.arith.specs.F64.{_≺_, 𝟘, e-9};
@@ -40,7 +40,7 @@ fn orient_at(c: &[f64], p: Vertex, k: usize) -> f64
     orient(vertex_at(c, k), end_at(c, k), p)
 }
 
-pub fn point_in_convex(c: &[f64], p: Vertex) -> bool
+fn share_a_sign(c: &[f64], p: Vertex) -> bool
     ensures { λ r. ⌜ r ≡ pointInConvex (now (c .entry)) p ⌝ }
 {
     let n = c.len() / 2;
@@ -57,6 +57,35 @@ pub fn point_in_convex(c: &[f64], p: Vertex) -> bool
         k += 1;
     }
     true
+}
+
+// The point lies on different sides of edges i and k.
+fn parted(c: &[f64], p: Vertex, i: usize, k: usize) -> bool
+    requires { ⌜ (i < count (now c)) × (k < count (now c)) ⌝ }
+    ensures { λ r. ⌜ (r ≡ true → pointInConvex (now (c .entry)) p ≡ false) ⌝ }
+{
+    let first = orient_at(c, p, i);
+    let second = orient_at(c, p, k);
+    if first > 1e-9 {
+        return second < -1e-9;
+    }
+    if second > 1e-9 {
+        return first < -1e-9;
+    }
+    false
+}
+
+// Of a point outside, most often two edges that face each other tell it.
+pub fn point_in_convex(c: &[f64], p: Vertex) -> bool
+    ensures { λ r. ⌜ r ≡ pointInConvex (now (c .entry)) p ⌝ }
+{
+    let n = c.len() / 2;
+    if n > 0 {
+        if parted(c, p, 0, n / 2) {
+            return false;
+        }
+    }
+    share_a_sign(c, p)
 }
 
 // Edge k may be closer to p.
