@@ -4,7 +4,7 @@ ghost use mathlib.Core.Path.{_≡_};
 ghost use mathlib.Core.Bool.{true, false, not, _&&_};
 ghost use lib.Ieee.{neg};
 ghost use Prim.Native.Nat.{_<_, _≤_};
-ghost use Rattle.arith.specs.F64.{_≺_, 𝟘, e-9};
+ghost use Rattle.arith.specs.F64.{_⊗_, _≺_, 𝟘, e-9};
 ghost use Rattle.arith.specs.Num as num;
 ghost use Rattle.profile.specs.Vertices as profile;
 ghost use Rattle.profile.specs.Vertices.{hit, count, vertexAt, endAt, edgeAt, nearer, nearestOf};
@@ -190,21 +190,24 @@ fn convex_penetration(c: &[f64], s: &[f64], witness: Witness) -> CollisionHit
     best
 }
 
-pub fn proper_cross(a: Vertex, b: Vertex, c: Vertex, d: Vertex) -> bool
+// `across` is the product of the sides of the edge from a to b on which c and d lie.
+pub fn proper_cross(a: Vertex, b: Vertex, c: Vertex, d: Vertex, across: f64) -> bool
+    requires { ⌜ across ≡ orient a b c ⊗ orient a b d ⌝ }
     ensures { λ r. ⌜ r ≡ properCross a b c d ⌝ }
 {
-    orient(a, b, c) * orient(a, b, d) < 0.0 && orient(c, d, a) * orient(c, d, b) < 0.0
+    across < 0.0 && orient(c, d, a) * orient(c, d, b) < 0.0
 }
 
-fn crosses_edge(s: &[f64], j: usize, a: Vertex, b: Vertex) -> bool
-    requires { ⌜ j < count (now s) ⌝ }
+fn crosses_edge(s: &[f64], j: usize, a: Vertex, b: Vertex, across: f64) -> bool
+    requires { ⌜ (j < count (now s)) × (across ≡ orient a b (vertexAt (now s) j) ⊗ orient a b (endAt (now s) j)) ⌝ }
     ensures { λ r. ⌜ r ≡ properCross a b (vertexAt (now (s .entry)) j) (endAt (now (s .entry)) j) ⌝ }
 {
-    proper_cross(a, b, vertex_at(s, j), end_at(s, j))
+    proper_cross(a, b, vertex_at(s, j), end_at(s, j), across)
 }
 
-// The search stops at the first proper crossing.
+// The search stops at the first proper crossing. Where an edge of the section ends the next one starts.
 fn any_cross(c: &[f64], s: &[f64]) -> bool
+    requires { ⌜ 3 ≤ count (now s) ⌝ }
     ensures { λ r. ⌜ r ≡ anyCross (now (c .entry)) (now (s .entry)) ⌝ }
 {
     let n = c.len() / 2;
@@ -214,12 +217,15 @@ fn any_cross(c: &[f64], s: &[f64]) -> bool
     'search: while i < n {
         let a = vertex_at(c, i);
         let b = end_at(c, i);
+        let mut side = orient(a, b, vertex_at(s, 0));
         let mut j = 0;
         while j < m {
-            if crosses_edge(s, j, a, b) {
+            let next = orient(a, b, end_at(s, j));
+            if crosses_edge(s, j, a, b, side * next) {
                 found = true;
                 break 'search;
             }
+            side = next;
             j += 1;
         }
         i += 1;
@@ -229,6 +235,7 @@ fn any_cross(c: &[f64], s: &[f64]) -> bool
 
 // The search runs only where the penetration does not decide.
 fn convex_overlaps(c: &[f64], s: &[f64], penetration: f64) -> bool
+    requires { ⌜ 3 ≤ count (now s) ⌝ }
     ensures { λ r. ⌜ r ≡ (not (penetration ≺ neg e-9) && anyCross (now (c .entry)) (now (s .entry))) ⌝ }
 {
     if penetration < -INTERIOR {

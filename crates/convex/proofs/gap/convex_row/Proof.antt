@@ -34,7 +34,8 @@ loop-holds c = (c .before .before .before .before .before .pre .1 .order, λ h e
 nearer-edge-requires : tie.Need-nearer-edge-requires Inv-loop μ-loop
 nearer-edge-requires c κs =
     let sides = c .before .before in
-    (omega (arith, c .loop-test .taken, sides .before .before .before .before .before .pre .1 .within), sides .edge-sides .ensures)
+    let start = sides .before .before .before .before .before in
+    (omega (arith, c .loop-test .taken, start .pre .1 .within), sides .edge-sides .ensures)
 
 add-j : tie.Need-add-j Inv-loop μ-loop
 add-j c = search needs
