@@ -23,10 +23,7 @@ use Rattle.points.specs.Points.{pointDistance}
 use Rattle.convex.proofs.Outside.{below-low, convex-outside, zero-low}
 use Rattle.convex.specs.Convex.{convexDistance, convexGap, convexPenetration, convexRow}
 use Rattle.convex.specs.Convex.{pointInConvex, signedDistanceConvex}
-
--- 01's two segments: edge j of the section and edge i of the convex body
-abbrev pub pairAt : List Float → List Float → ℕ → ℕ → CollisionHit
-pairAt c s i j = segments (edgeAt s j) (vertexAt c i) (endAt c i)
+use Rattle.convex.specs.Steps.{pairAt}
 
 -- the convex edge is outer
 abbrev pub Before : ℕ → ℕ → ℕ → ℕ → Type 0

@@ -8,6 +8,7 @@ use mathlib.Core.Bool.{Bool, true, false, not, _&&_, _||_, and-comm}
 use mathlib.Core.Logic.{⊎-elim}
 use mathlib.Core.Path.{_≡_, refl, sym, subst, _∙_}
 use Rattle.profile.specs.Vertices.{any}
+use Rattle.profile.proofs.Fold.{any-at}
 
 pub flag-more : (test : ℕ → Bool) (k : ℕ) {flag t : Bool} →
     flag ≡ any test k → t ≡ test k → (flag || t) ≡ any test (k + 1)
@@ -37,3 +38,7 @@ module _ (f g : ℕ → Bool) (k n : ℕ) {a b : Bool} (left : a ≡ any f k) (r
 
   pub not-both-set : k ≡ n → (a && b) ≡ false → true ≡ not (any f n && any g n)
   not-both-set h e = rw (← h, ← left, ← right, e)
+
+-- one test is true somewhere, and so is the other
+pub both-somewhere : (f g : ℕ → Bool) (n i k : ℕ) → i < n → k < n → f i ≡ true → g k ≡ true → not (any f n && any g n) ≡ false
+both-somewhere f g n i k l m p q = rw (← any-at f i n l refl p, ← any-at g k n m refl q)

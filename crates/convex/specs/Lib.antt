@@ -1,2 +1,3 @@
--- 01's convex body distance.
+-- 01's convex body distance, and what functions below it promise each other.
 pub mod Convex
+pub mod Steps

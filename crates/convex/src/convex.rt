@@ -1,23 +1,23 @@
-// Convex body distance: the gap over all pairs of edges, the depth at the vertices of both, and the
-// search for a proper crossing.
+// Convex body distance: the depth at the vertices of both, the search for a proper crossing, and with the
+// gap the whole.
 ghost use mathlib.Core.Path.{_≡_};
-ghost use mathlib.Core.Bool.{not, _&&_};
+ghost use mathlib.Core.Bool.{true, false, not, _&&_};
 ghost use lib.Ieee.{neg};
 ghost use Prim.Native.Nat.{_<_, _≤_};
-ghost use Rattle.arith.specs.F64.{_≺_, 𝟘, e-9};
+ghost use Rattle.arith.specs.F64.{_⊗_, _≺_, 𝟘, e-9};
 ghost use Rattle.arith.specs.Num as num;
 ghost use Rattle.profile.specs.Vertices as profile;
 ghost use Rattle.profile.specs.Vertices.{hit, count, vertexAt, endAt, edgeAt, nearer, nearestOf};
-ghost use Rattle.segments.specs.Segments.{closest, segments};
+ghost use Rattle.segments.specs.Segments.{closest};
 ghost use Rattle.points.specs.Points.{pointDistance};
-ghost use Rattle.convex.specs.Convex.{convexRow, convexGap, orient, pointInConvex, convexNear, signedDistanceConvex};
+ghost use Rattle.convex.specs.Convex.{orient, pointInConvex, convexNear, signedDistanceConvex};
 ghost use Rattle.convex.specs.Convex.{convexPenetration, properCross, anyCross, convexDistance};
+use super::gap::convex_gap;
 use points::deeper_at;
 use points::result_of;
 use profile::CollisionHit;
 use profile::Vertex;
 use profile::Witness;
-use profile::edge_at;
 use profile::end_at;
 use profile::nearer_of;
 use profile::on;
@@ -26,49 +26,6 @@ use segments::BOUNDARY;
 use segments::INTERIOR;
 use segments::closer_between;
 use segments::closest_point;
-use segments::seg_seg_point_on_first;
-
-// Edge j of the section may be nearer to the edge from a to b.
-fn nearer_edge(s: &[f64], j: usize, a: Vertex, b: Vertex, best: CollisionHit) -> CollisionHit
-    requires { ⌜ j < count (now s) ⌝ }
-    ensures { λ r. ⌜ r ≡ nearer best (segments (edgeAt (now (s .entry)) j) a b) ⌝ }
-{
-    let found = seg_seg_point_on_first(edge_at(s, j), a, b, segments::legless(best));
-    found.hit
-}
-
-fn convex_row(c: &[f64], s: &[f64], i: usize, start: CollisionHit) -> CollisionHit
-    requires { ⌜ i < count (now c) ⌝ }
-    ensures { λ r. ⌜ r ≡ convexRow (now (c .entry)) (now (s .entry)) i start ⌝ }
-{
-    let a = vertex_at(c, i);
-    let b = end_at(c, i);
-    let m = s.len() / 2;
-    let mut best = start;
-    let mut j = 0;
-    while j < m {
-        best = nearer_edge(s, j, a, b, best);
-        j += 1;
-    }
-    best
-}
-
-fn convex_gap(c: &[f64], s: &[f64]) -> CollisionHit
-    requires { ⌜ 3 ≤ count (now s) ⌝ }
-    ensures { λ r. ⌜ r ≡ convexGap (now (c .entry)) (now (s .entry)) ⌝ }
-{
-    let n = c.len() / 2;
-    let mut best = CollisionHit {
-        distance: arith::infinity(),
-        witness: on(0, vertex_at(s, 0)),
-    };
-    let mut i = 0;
-    while i < n {
-        best = convex_row(c, s, i, best);
-        i += 1;
-    }
-    best
-}
 
 pub fn orient(a: Vertex, b: Vertex, p: Vertex) -> f64
     ensures { λ r. ⌜ r ≡ orient a b p ⌝ }
@@ -83,7 +40,7 @@ fn orient_at(c: &[f64], p: Vertex, k: usize) -> f64
     orient(vertex_at(c, k), end_at(c, k), p)
 }
 
-pub fn point_in_convex(c: &[f64], p: Vertex) -> bool
+fn share_a_sign(c: &[f64], p: Vertex) -> bool
     ensures { λ r. ⌜ r ≡ pointInConvex (now (c .entry)) p ⌝ }
 {
     let n = c.len() / 2;
@@ -100,6 +57,35 @@ pub fn point_in_convex(c: &[f64], p: Vertex) -> bool
         k += 1;
     }
     true
+}
+
+// The point lies on different sides of edges i and k.
+fn parted(c: &[f64], p: Vertex, i: usize, k: usize) -> bool
+    requires { ⌜ (i < count (now c)) × (k < count (now c)) ⌝ }
+    ensures { λ r. ⌜ (r ≡ true → pointInConvex (now (c .entry)) p ≡ false) ⌝ }
+{
+    let first = orient_at(c, p, i);
+    let second = orient_at(c, p, k);
+    if first > 1e-9 {
+        return second < -1e-9;
+    }
+    if second > 1e-9 {
+        return first < -1e-9;
+    }
+    false
+}
+
+// Of a point outside, most often two edges that face each other tell it.
+pub fn point_in_convex(c: &[f64], p: Vertex) -> bool
+    ensures { λ r. ⌜ r ≡ pointInConvex (now (c .entry)) p ⌝ }
+{
+    let n = c.len() / 2;
+    if n > 0 {
+        if parted(c, p, 0, n / 2) {
+            return false;
+        }
+    }
+    share_a_sign(c, p)
 }
 
 // Edge k may be closer to p.
@@ -204,21 +190,24 @@ fn convex_penetration(c: &[f64], s: &[f64], witness: Witness) -> CollisionHit
     best
 }
 
-pub fn proper_cross(a: Vertex, b: Vertex, c: Vertex, d: Vertex) -> bool
+// `across` is the product of the sides of the edge from a to b on which c and d lie.
+pub fn proper_cross(a: Vertex, b: Vertex, c: Vertex, d: Vertex, across: f64) -> bool
+    requires { ⌜ across ≡ orient a b c ⊗ orient a b d ⌝ }
     ensures { λ r. ⌜ r ≡ properCross a b c d ⌝ }
 {
-    orient(a, b, c) * orient(a, b, d) < 0.0 && orient(c, d, a) * orient(c, d, b) < 0.0
+    across < 0.0 && orient(c, d, a) * orient(c, d, b) < 0.0
 }
 
-fn crosses_edge(s: &[f64], j: usize, a: Vertex, b: Vertex) -> bool
-    requires { ⌜ j < count (now s) ⌝ }
+fn crosses_edge(s: &[f64], j: usize, a: Vertex, b: Vertex, across: f64) -> bool
+    requires { ⌜ (j < count (now s)) × (across ≡ orient a b (vertexAt (now s) j) ⊗ orient a b (endAt (now s) j)) ⌝ }
     ensures { λ r. ⌜ r ≡ properCross a b (vertexAt (now (s .entry)) j) (endAt (now (s .entry)) j) ⌝ }
 {
-    proper_cross(a, b, vertex_at(s, j), end_at(s, j))
+    proper_cross(a, b, vertex_at(s, j), end_at(s, j), across)
 }
 
-// The search stops at the first proper crossing.
+// The search stops at the first proper crossing. Where an edge of the section ends the next one starts.
 fn any_cross(c: &[f64], s: &[f64]) -> bool
+    requires { ⌜ 3 ≤ count (now s) ⌝ }
     ensures { λ r. ⌜ r ≡ anyCross (now (c .entry)) (now (s .entry)) ⌝ }
 {
     let n = c.len() / 2;
@@ -228,12 +217,15 @@ fn any_cross(c: &[f64], s: &[f64]) -> bool
     'search: while i < n {
         let a = vertex_at(c, i);
         let b = end_at(c, i);
+        let mut side = orient(a, b, vertex_at(s, 0));
         let mut j = 0;
         while j < m {
-            if crosses_edge(s, j, a, b) {
+            let next = orient(a, b, end_at(s, j));
+            if crosses_edge(s, j, a, b, side * next) {
                 found = true;
                 break 'search;
             }
+            side = next;
             j += 1;
         }
         i += 1;
@@ -243,6 +235,7 @@ fn any_cross(c: &[f64], s: &[f64]) -> bool
 
 // The search runs only where the penetration does not decide.
 fn convex_overlaps(c: &[f64], s: &[f64], penetration: f64) -> bool
+    requires { ⌜ 3 ≤ count (now s) ⌝ }
     ensures { λ r. ⌜ r ≡ (not (penetration ≺ neg e-9) && anyCross (now (c .entry)) (now (s .entry))) ⌝ }
 {
     if penetration < -INTERIOR {

@@ -29,7 +29,7 @@ use Rattle.ranges.proofs.FarApart.{sides-ended, there, up, back, down}
 use Rattle.ranges.proofs.Ranges.{Ended, Holds, range-ended, range-holds, stays}
 
 -- ---- ranges that have a segment's points
-has : (h : Range) (a b : Float) → Ended h → ((t : Float) → Share binary64 t → Holds h (a ⊕ (b ⊖ a) ⊗ t)) → Has h a b
+pub has : (h : Range) (a b : Float) → Ended h → ((t : Float) → Share binary64 t → Holds h (a ⊕ (b ⊖ a) ⊗ t)) → Has h a b
 has h a b E k = record {
   low-end = number-held binary64 (h .lo) (E .low);
   high-end = number-held binary64 (h .hi) (E .high);

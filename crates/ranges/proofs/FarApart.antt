@@ -1,6 +1,5 @@
--- An edge whose computed points lie as far from a point, or from those of a segment, along one axis, as the best so far is not
--- nearer. By the ranges that hold the points, and the law that what a gap reaches a hypot reaches. One range holds the points of
--- a box's four sides.
+-- An edge whose computed points lie as far from a point along one axis as the best so far is not nearer. By the ranges that hold
+-- the points, and the law that what a gap reaches a hypot reaches. One range holds the points of a box's four sides.
 use Prim.Native.Nat.{ℕ, _+_, _≤_}
 use native.Mathlib.Nat.{le-of-eq, le-trans}
 use native.Mathlib.Omega.{arith}
@@ -20,14 +19,14 @@ use Rattle.arith.proofs.Laws.Gap.{gap-above, gap-below}
 use Rattle.arith.proofs.Laws.Hypot.{hypot-comm}
 use Rattle.arith.proofs.Laws.OrderHeld.{not-less-nan, number-held}
 use Rattle.arith.proofs.Laws.Sizes.{finite-number, one-finite, zero-finite, zero-key, zero-number}
-use Rattle.profile.specs.declared.shapes.Edge.{Edge}
 use Rattle.profile.specs.declared.shapes.Vertex.{Vertex}
 use Rattle.profile.proofs.Steps.{pick}
-use Rattle.segments.specs.Segments.{apart, closestPlaces, closestPoint, dot, minus, places, segments, unitClamp}
+use Rattle.segments.specs.Segments.{apart, closestPlaces, closestPoint, dot, minus, places, unitClamp}
 use Rattle.segments.specs.declared.shapes.Places.{Places}
+use Rattle.segments.proofs.Legs.{not-below-itself}
 use Rattle.ranges.specs.Ranges.{farApart, range, rangeOf, sidesRange}
 use Rattle.ranges.specs.declared.shapes.Range.{Range}
-use Rattle.ranges.proofs.Ranges.{Ended, Holds, held-first, held-second, joined-ended, not-below-itself, range-ended}
+use Rattle.ranges.proofs.Ranges.{Ended, Holds, held-first, held-second, joined-ended, range-ended}
 use Rattle.ranges.proofs.Ranges.{range-holds, range-starts, stays}
 
 -- ---- how far along two segments: from 0 to 1, or a NaN
@@ -138,33 +137,6 @@ module _ (least : Float) (B : fits binary64 least ≡ true) (g h : Range) (G : H
           → (hypot binary64 (x ⊖ y) z ≺ least) ≡ false
       go true k e = gap-above binary64 least z B Z x y (g .lo) (h .hi) X Y (G .low) (H .high) k (P .low) (Q .high)
       go false k e = gap-below binary64 least z B Z x y (h .lo) (g .hi) X Y (H .low) (G .high) e (Q .low) (P .high)
-
--- ---- an edge and a segment: h holds the segment's points along z, or along the radius
-module _ (least : Float) (B : fits binary64 least ≡ true) (e : Edge) (q q′ : Vertex) (h : Range) (H : Ended h) where
-  pub far-along-z : T (fits binary64 (e .a .z)) → ((t : Float) → Share binary64 t → Holds h (q .z ⊕ (q′ .z ⊖ q .z) ⊗ t))
-      → farApart least (rangeOf (e .a .z) (e .b .z)) h ≡ true → (segments e q q′ .distance ≺ least) ≡ false
-  unfolding segments
-  far-along-z P k far =
-      let d = minus (e .b) (e .a) in
-      let d′ = minus q′ q in
-      let r = minus (e .a) q in
-      let at = places-shares (dot d d) (dot d d′) (dot d r) (dot d′ d′) (dot d′ r) in
-      far-not-less least B (rangeOf (e .a .z) (e .b .z)) h (ends _ (range-ended (e .a .z) (e .b .z) P)) (ends h H) _ _ _
-      (add-fits binary64 _ _) (add-fits binary64 _ _) (sub-fits binary64 _ _)
-      (range-holds (e .a .z) (e .b .z) P _ (at .s)) (k _ (at .t)) far
-
-  pub far-along-r : T (fits binary64 (e .a .r)) → ((t : Float) → Share binary64 t → Holds h (q .r ⊕ (q′ .r ⊖ q .r) ⊗ t))
-      → farApart least (rangeOf (e .a .r) (e .b .r)) h ≡ true → (segments e q q′ .distance ≺ least) ≡ false
-  unfolding segments
-  far-along-r P k far =
-      let d = minus (e .b) (e .a) in
-      let d′ = minus q′ q in
-      let r = minus (e .a) q in
-      let at = places-shares (dot d d) (dot d d′) (dot d r) (dot d′ d′) (dot d′ r) in
-      rw (hypot-comm binary64)
-      (far-not-less least B (rangeOf (e .a .r) (e .b .r)) h (ends _ (range-ended (e .a .r) (e .b .r) P)) (ends h H) _ _ _
-      (add-fits binary64 _ _) (add-fits binary64 _ _) (sub-fits binary64 _ _)
-      (range-holds (e .a .r) (e .b .r) P _ (at .s)) (k _ (at .t)) far)
 
 -- ---- a point and an edge
 -- both computed ends of a segment lie as far from x, to one side

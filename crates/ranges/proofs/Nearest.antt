@@ -73,7 +73,7 @@ module _ (s : ℕ → CollisionHit) (S : (k : ℕ) → Held (s k)) (w : Witness)
   nearest-over best B k n l h = nearest-from best B n ∙ rw (some-below (best .distance) (true→T B) k n l h)
 
   -- what was met is below u if the nearer of it and nothing is
-  met-below : (e : CollisionHit) (u : Float) → (nearer (hit ∞ w) e .distance ≺ u) ≡ true → (e .distance ≺ u) ≡ true
+  pub met-below : (e : CollisionHit) (u : Float) → (nearer (hit ∞ w) e .distance ≺ u) ≡ true → (e .distance ≺ u) ≡ true
   met-below e u h = go (e .distance ≺ ∞) h
     where
       go : (t : Bool) → (cond t e (hit ∞ w) .distance ≺ u) ≡ true → (e .distance ≺ u) ≡ true

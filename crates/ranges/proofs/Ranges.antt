@@ -55,13 +55,6 @@ finite-of (fin s m i) e = tt
 itself : (x : Float) → T (finiteNumber binary64 x) → (x ≺ x) ≡ false
 itself x X = let N = number-of binary64 x X in lt-key binary64 x x N N ∙ le-ltb _ _ (le-refl (key binary64 x))
 
-pub not-below-itself : (x : Float) → T (fits binary64 x) → (x ≺ x) ≡ false
-unfolding lt
-not-below-itself nan X = refl
-not-below-itself (inf true) X = refl
-not-below-itself (inf false) X = refl
-not-below-itself (fin s m i) X = itself (fin s m i) (and-i (fits binary64 (fin s m i)) true X tt)
-
 -- x - x is finite
 zero-step : (x : Float) → T (finiteNumber binary64 x) → T (finiteNumber binary64 (x ⊖ x))
 zero-step x X =

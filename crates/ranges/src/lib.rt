@@ -1,16 +1,20 @@
-// Where the computed points of edges and of a box's sides lie along one axis, so that most edges need no
-// look.
+// Where the computed points of edges, of a box's sides and of a polygon lie along each axis, so that most
+// edges need no look.
+mod hull;
 mod likely;
 mod passed;
 mod range;
 mod search;
 mod shapes;
 
+pub use hull::hull_of;
+pub use likely::likely_edge;
 pub use likely::likely_edge_at;
 pub use likely::likely_edge_or;
 pub use passed::far_from;
 pub use passed::gap_between;
 pub use passed::misses_box;
+pub use passed::far_off;
 pub use passed::passed_along;
 pub use range::ranges_of;
 pub use range::sides_of;

@@ -15,7 +15,7 @@ fn rough_gap(a: Vertex, b: Vertex, x: Aabb) -> f64 {
     dz * dz + dr * dr
 }
 
-fn likely_edge(s: &[f64], x: Aabb) -> usize
+pub fn likely_edge(s: &[f64], x: Aabb) -> usize
     requires { ⌜ 3 ≤ count (now s) ⌝ }
     ensures { λ r. ⌜ r < count (now (s .entry)) ⌝ }
 {

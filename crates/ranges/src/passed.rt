@@ -3,10 +3,13 @@ ghost use mathlib.Core.Path.{_≡_};
 ghost use mathlib.Core.Bool.{true};
 ghost use Rattle.segments.specs.Clip.{clip, outside};
 ghost use Rattle.ranges.specs.Ranges.{range, rangeOf, farApart, gapBetween, sideMisses, missesAlong, PassedAlong};
+ghost use Rattle.ranges.specs.Hull.{FarOff};
 use super::range::range_of;
 use super::shapes::Range;
+use super::shapes::Sides;
 use profile::Aabb;
 use profile::Vertex;
+use segments::too_far;
 
 // How far two ranges lie apart, 0 where they do not.
 pub fn gap_between(g: Range, h: Range) -> f64
@@ -41,6 +44,18 @@ pub fn far_from(least: f64, a: f64, b: f64, x: f64) -> bool
         }
     }
     false
+}
+
+// The points of the segment from a to b lie at least this far from those in `sides`.
+pub fn far_off(a: Vertex, b: Vertex, sides: Sides, least: f64) -> bool
+    ensures { λ r. ⌜ (r ≡ true → FarOff least a b sides) ⌝ }
+{
+    let z = gap_between(range_of(a.z, b.z), sides.z);
+    if z >= least {
+        return true;
+    }
+    let r = gap_between(range_of(a.r, b.r), sides.r);
+    too_far(z, r, least)
 }
 
 // This side of the box alone leaves nothing of a segment.

@@ -21,7 +21,7 @@ pub fn range_of(a: f64, b: f64) -> Range
     Range { lo: -top, hi: top }
 }
 
-fn join(g: Range, h: Range) -> Range
+pub fn join(g: Range, h: Range) -> Range
     ensures { λ r. ⌜ r ≡ joined g h ⌝ }
 {
     Range {

@@ -10,6 +10,7 @@ pub use clip::clip_segment;
 pub use near::hopeless;
 pub use near::legless;
 pub use near::nearer_near;
+pub use near::too_far;
 pub use segment::closer_between;
 pub use segment::closest_point;
 pub use segment::lerp;

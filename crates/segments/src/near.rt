@@ -34,24 +34,31 @@ pub fn nearer_near(best: Near, new: Near) -> Near
     }
 }
 
-// Legs of at least z and r have no hypot below the best: a leg alone tells it, or both, or their squares.
-pub fn hopeless(z: f64, r: f64, best: Near) -> bool
-    requires { ⌜ ((z ≺ 𝟘) ≡ false) × ((r ≺ 𝟘) ≡ false) × Legs best ⌝ }
-    ensures { λ o. ⌜ (o ≡ true → Hopeless z r (best .hit .distance)) ⌝ }
+// Legs of at least z and r have no hypot below this: one of them tells it, or the sum of their squares.
+pub fn too_far(z: f64, r: f64, least: f64) -> bool
+    requires { ⌜ ((z ≺ 𝟘) ≡ false) × ((r ≺ 𝟘) ≡ false) ⌝ }
+    ensures { λ o. ⌜ (o ≡ true → Hopeless z r least) ⌝ }
 {
-    let least = best.hit.distance;
     if z >= least {
         return true;
     }
     if r >= least {
         return true;
     }
+    z * z + r * r > least * least * 1.0000000000001 + 1e-300
+}
+
+// They have none below the best, as its legs tell, or its distance.
+pub fn hopeless(z: f64, r: f64, best: Near) -> bool
+    requires { ⌜ ((z ≺ 𝟘) ≡ false) × ((r ≺ 𝟘) ≡ false) × Legs best ⌝ }
+    ensures { λ o. ⌜ (o ≡ true → Hopeless z r (best .hit .distance)) ⌝ }
+{
     if z >= best.z {
         if r >= best.r {
             return true;
         }
     }
-    z * z + r * r > least * least * 1.0000000000001 + 1e-300
+    too_far(z, r, best.hit.distance)
 }
 
 // The point w of edge k, at the distance of p and q, may be nearer than the best.

@@ -10,7 +10,8 @@ end-at-requires : tie.Need-end-at-requires
 end-at-requires c κs = search needs
 
 proper-cross-requires : tie.Need-proper-cross-requires
-proper-cross-requires c κs = search needs
+proper-cross-requires c κs =
+    rw (c .end-at .ensures, c .before .vertex-at .ensures) (c .before .before .before .pre .1)
 
 returns : tie.Need-returns
 returns c =

@@ -1,35 +1,22 @@
--- `segments::near::hopeless` meets its contract: one leg, both, or their squares reach the best.
-use Rattle.arith.proofs.Laws.HypotSquares.{margin}
+-- `segments::near::hopeless` meets its contract: both legs reach the best's, or they are too far for it.
 use Rattle.arith.proofs.Laws.OrderHeld.{true→T}
-use Rattle.segments.proofs.Legs.{hopeless-legs, hopeless-r, hopeless-squares, hopeless-z}
+use Rattle.segments.proofs.Legs.{hopeless-legs}
+use borrow.Author.Needs.{needs}
 use Rattle.segments.proofs.near.hopeless.Statement.{statement}
 use Rattle.segments.proofs.near.hopeless.Tie as tie
 
+too-far-requires : tie.Need-too-far-requires
+too-far-requires c κs = search needs
+
 returns : tie.Need-returns
 returns c =
-    let start = c .before in
-    λ t. hopeless-z _ _ _ (true→T (start .good .0 .1)) (true→T (start .good .1 .0 .1))
-    (start .good .1 .1 .0 .1 .1 .0 .1 .1 .0 .1) (c .if1 .taken)
-
-returns-2 : tie.Need-returns-2
-returns-2 c =
-    let start = c .before .before in
-    λ t. hopeless-r _ _ _
-    (hopeless-z _ _ _ (true→T (start .good .1 .0 .1)) (true→T (start .good .0 .1))
-    (start .good .1 .1 .0 .1 .1 .0 .1 .1 .0 .1) (c .if2 .taken))
-
-returns-3 : tie.Need-returns-3
-returns-3 c =
-    let start = c .before .before .before .before .before .before in
+    let start = c .before .before .before .before in
     λ t. hopeless-legs _ _ _ (true→T (start .good .0 .1)) (true→T (start .good .1 .0 .1))
     (start .good .1 .1 .0 .1 .1 .0 .1 .1 .0 .1) _ _ (true→T (start .good .1 .1 .0 .1 .1 .1 .0 .1))
-    (true→T (start .good .1 .1 .0 .1 .1 .1 .1 .0 .1)) (c .before .before .if3 .taken) (c .if4 .taken) (start .pre .2)
+    (true→T (start .good .1 .1 .0 .1 .1 .1 .1 .0 .1)) (c .before .before .if1 .taken) (c .if2 .taken) (start .pre .2)
 
-returns-4 : tie.Need-returns-4
-returns-4 c =
-    let start = c .before .before .before .before in
-    λ t. hopeless-squares _ _ _ (true→T (start .good .0 .1)) (true→T (start .good .1 .0 .1))
-    (start .good .1 .1 .0 .1 .1 .0 .1 .1 .0 .1) (start .pre .0) (start .pre .1) _ _ margin t
+returns-2 : tie.Need-returns-2
+returns-2 c = c .too-far .ensures
 
 pub hopeless-spec : {M : Type 1} → statement M
-hopeless-spec = tie.close (tie.spec returns returns-2 returns-3 returns-4)
+hopeless-spec = tie.close (tie.spec returns too-far-requires returns-2)
