@@ -52,7 +52,7 @@ fn rough_apart(a: Vertex, p: Vertex) -> f64 {
     dz * dz + dr * dr
 }
 
-// The edge that starts at the nearest vertex.
+// The edge that ends at the nearest vertex, or edge 0: the next, which is often as near, comes after it.
 pub fn likely_edge_at(s: &[f64], p: Vertex) -> usize
     requires { ⌜ 3 ≤ count (now s) ⌝ }
     ensures { λ r. ⌜ r < count (now (s .entry)) ⌝ }
@@ -69,5 +69,8 @@ pub fn likely_edge_at(s: &[f64], p: Vertex) -> usize
         }
         k += 1;
     }
-    near
+    if near > 0 {
+        return near - 1;
+    }
+    0
 }

@@ -32,8 +32,14 @@ loop-less c = search needs
 loop-again : tie.Need-loop-again Inv-loop μ-loop
 loop-again c = ⊎-elim (λ w. search needs) (λ w. search needs) (c .if1 .came)
 
+sub-result : tie.Need-sub-result Inv-loop μ-loop
+sub-result c = search needs
+
 returns : tie.Need-returns Inv-loop μ-loop
 returns c = search needs
+
+returns-2 : tie.Need-returns-2 Inv-loop μ-loop
+returns-2 c = search needs
 
 pub likely-edge-at-spec : {M : Type 1} → statement M
 likely-edge-at-spec =
@@ -48,4 +54,6 @@ likely-edge-at-spec =
     add-k
     loop-less
     loop-again
-    returns)
+    sub-result
+    returns
+    returns-2)
