@@ -34,13 +34,12 @@ module _ (s : List Float) (p : Vertex) where
   at-held k =
       pick Held (edgeIsSurface (vertexAt s k) (endAt s k)) (λ h. closest-held p (edgeAt s k)) (λ h. number-held _ ∞ infinite)
 
-  -- edge k, from a to b, is not smaller than the best and leaves it, whether it counts or not
-  pub unmoved : (k : ℕ) (best : CollisionHit) {a b : Vertex} → a ≡ vertexAt s k → b ≡ endAt s k
-      → (apart p (closestPoint p a b) ≺ best .distance) ≡ false → best ≡ surfaceStep s p k best
+  -- edge k, which is e, is not smaller than the best and leaves it, whether it counts or not
+  pub unmoved : (k : ℕ) (best : CollisionHit) {e : Edge} → e ≡ edgeAt s k
+      → (apart p (closestPoint p (e .a) (e .b)) ≺ best .distance) ≡ false → best ≡ surfaceStep s p k best
   unfolding surfaceStep closest
-  unmoved k best {a} {b} i j f =
-      let g = subst (λ (x : Vertex). (apart p (closestPoint p x b) ≺ best .distance) ≡ false) i f in
-      rw (subst (λ (x : Vertex). (apart p (closestPoint p (vertexAt s k) x) ≺ best .distance) ≡ false) j g)
+  unmoved k best {e} i f =
+      rw (subst (λ (x : Edge). (apart p (closestPoint p (x .a) (x .b)) ≺ best .distance) ≡ false) i f)
       (kept (edgeIsSurface (vertexAt s k) (endAt s k)) best)
 
   pub step-at : (k : ℕ) (best : CollisionHit) → surfaceStep s p k best ≡ nearer best (surfaceAt s p k)
@@ -54,10 +53,12 @@ module _ (s : List Float) (p : Vertex) where
       step-at n (upto (surfaceStep s p) a n) ∙ ap (λ (b : CollisionHit). nearer b (surfaceAt s p n)) (steps-at a n)
 
   -- what edge k, which is e, makes of the best
-  pub stepped : (k : ℕ) (best r : CollisionHit) {e : Edge} → e ≡ edgeAt s k
-      → r ≡ cond (edgeIsSurface (e .a) (e .b)) (nearer best (closest p e)) best → r ≡ surfaceStep s p k best
+  pub stepped : (k : ℕ) (best r : CollisionHit) {e : Edge} {counts : Bool} → e ≡ edgeAt s k
+      → counts ≡ edgeIsSurface (e .a) (e .b) → r ≡ cond counts (nearer best (closest p e)) best → r ≡ surfaceStep s p k best
   unfolding surfaceStep
-  stepped k best r {e} i f = subst (λ (x : Edge). r ≡ cond (edgeIsSurface (x .a) (x .b)) (nearer best (closest p x)) best) i f
+  stepped k best r {e} i c f =
+      subst (λ (x : Edge). r ≡ cond (edgeIsSurface (x .a) (x .b)) (nearer best (closest p x)) best) i
+      (f ∙ ap (λ (t : Bool). cond t (nearer best (closest p e)) best) c)
 
   module _ (none : CollisionHit) (i : none ≡ noEdge s) where
     -- all edges in turn

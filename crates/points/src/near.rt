@@ -1,10 +1,12 @@
 // The closest point on the section. An edge that along one axis is no nearer than the best so far is passed
-// over, and the edge that is likely the nearest is tried first.
+// over, one that along both is as far as the best needs no root, and the edge that is likely the nearest is
+// tried first.
 ghost use mathlib.Core.Path.{_≡_};
 ghost use mathlib.Core.Bool.{true, false, cond};
 ghost use Prim.Native.Nat.{_<_, _≤_};
 ghost use Rattle.arith.specs.F64.{_≺_};
 ghost use Rattle.profile.specs.Vertices.{count, nearer, upto, vertex};
+ghost use Rattle.segments.specs.Legs.{Legs};
 ghost use Rattle.segments.specs.Segments.{apart, closest, closestPoint};
 ghost use Rattle.points.specs.Points.{edgeIsSurface, surfaceStep, surfaceNear};
 ghost use Rattle.points.specs.Steps.{noEdge, SurfaceFrom};
@@ -12,13 +14,14 @@ use profile::CollisionHit;
 use profile::Edge;
 use profile::Vertex;
 use profile::edge_at;
-use profile::end_at;
-use profile::nearer_of;
 use profile::on;
 use profile::vertex_at;
 use ranges::far_from;
 use ranges::likely_edge_at;
 use ranges::start_over;
+use segments::Near;
+use segments::legless;
+use segments::nearer_near;
 use segments::point_segment;
 
 // An edge with both ends on the axis is no surface.
@@ -38,32 +41,34 @@ fn passed_over(z: f64, r: f64, a: Vertex, b: Vertex, least: f64) -> bool
     far_from(least, a.r, b.r, r)
 }
 
-// The edge, if it counts, lowers the distance that best has.
-fn surface_edge(p: Vertex, edge: Edge, best: CollisionHit) -> CollisionHit
-    ensures { λ r. ⌜ r ≡ cond (edgeIsSurface (edge .a) (edge .b)) (nearer best (closest p edge)) best ⌝ }
+// The edge, if it counts, lowers the distance that best has. Small enough for every loop to take it in, so that
+// best stays in registers.
+fn surface_edge(p: Vertex, edge: Edge, counts: bool, best: Near) -> Near
+    requires { ⌜ Legs best ⌝ }
+    ensures { λ r. ⌜ (r .hit ≡ cond counts (nearer (best .hit) (closest p edge)) (best .hit)) × Legs r ⌝ }
 {
-    if edge_is_surface(edge.a, edge.b) {
-        let found = point_segment(p, edge, segments::legless(best));
-        return found.hit;
+    if counts {
+        return point_segment(p, edge, best);
     }
     best
 }
 
 // Edge k may lower it for the point (z, r).
-fn surface_step(s: &[f64], z: f64, r: f64, k: usize, best: CollisionHit) -> CollisionHit
-    requires { ⌜ k < count (now s) ⌝ }
-    ensures { λ o. ⌜ o ≡ surfaceStep (now (s .entry)) (vertex z r) k best ⌝ }
+fn surface_step(s: &[f64], z: f64, r: f64, k: usize, best: Near) -> Near
+    requires { ⌜ (k < count (now s)) × Legs best ⌝ }
+    ensures { λ o. ⌜ (o .hit ≡ surfaceStep (now (s .entry)) (vertex z r) k (best .hit)) × Legs o ⌝ }
 {
-    if passed_over(z, r, vertex_at(s, k), end_at(s, k), best.distance) {
+    let edge = edge_at(s, k);
+    if passed_over(z, r, edge.a, edge.b, best.hit.distance) {
         return best;
     }
-    surface_edge(Vertex { z, r }, edge_at(s, k), best)
+    surface_edge(Vertex { z, r }, edge, edge_is_surface(edge.a, edge.b), best)
 }
 
 // Edges from this one up to that one may lower it.
-fn surface_from(s: &[f64], p: Vertex, from: usize, to: usize, start: CollisionHit) -> CollisionHit
-    requires { ⌜ (from ≤ to) × (to ≤ count (now s)) ⌝ }
-    ensures { λ r. ⌜ SurfaceFrom (now (s .entry)) p from to start r ⌝ }
+fn surface_from(s: &[f64], p: Vertex, from: usize, to: usize, start: Near) -> Near
+    requires { ⌜ (from ≤ to) × (to ≤ count (now s)) × Legs start ⌝ }
+    ensures { λ r. ⌜ SurfaceFrom (now (s .entry)) p from to (start .hit) (r .hit) × Legs r ⌝ }
 {
     let z = p.z;
     let r = p.r;
@@ -81,13 +86,14 @@ fn surface_few(s: &[f64], p: Vertex, none: CollisionHit) -> CollisionHit
     ensures { λ r. ⌜ (let l = now (s .entry) in r ≡ upto (surfaceStep l p) none (count l)) ⌝ }
 {
     let n = s.len() / 2;
-    let mut best = none;
+    let mut best = legless(none);
     let mut k = 0;
     while k < n {
-        best = surface_edge(p, edge_at(s, k), best);
+        let edge = edge_at(s, k);
+        best = surface_edge(p, edge, edge_is_surface(edge.a, edge.b), best);
         k += 1;
     }
-    best
+    best.hit
 }
 
 // No edge counts.
@@ -102,24 +108,31 @@ fn no_edge(s: &[f64]) -> CollisionHit
 }
 
 // Edge k alone.
-pub fn surface_first(s: &[f64], p: Vertex, k: usize) -> CollisionHit
+pub fn surface_first(s: &[f64], p: Vertex, k: usize) -> Near
     requires { ⌜ k < count (now s) ⌝ }
-    ensures { λ r. ⌜ r ≡ surfaceStep (now (s .entry)) p k (noEdge (now (s .entry))) ⌝ }
+    ensures { λ r. ⌜ (r .hit ≡ surfaceStep (now (s .entry)) p k (noEdge (now (s .entry)))) × Legs r ⌝ }
 {
-    surface_edge(p, edge_at(s, k), no_edge(s))
+    let edge = edge_at(s, k);
+    surface_edge(
+        p,
+        edge,
+        edge_is_surface(edge.a, edge.b),
+        legless(no_edge(s)),
+    )
 }
 
 // All edges, of which edge k has been tried.
-pub fn surface_rest(s: &[f64], p: Vertex, k: usize, first: CollisionHit) -> CollisionHit
-    requires { ⌜ (k < count (now s)) × (first ≡ surfaceStep (now s) p k (noEdge (now s))) ⌝ }
+pub fn surface_rest(s: &[f64], p: Vertex, k: usize, first: Near) -> CollisionHit
+    requires { ⌜ (k < count (now s)) × (first .hit ≡ surfaceStep (now s) p k (noEdge (now s))) × Legs first ⌝ }
     ensures { λ r. ⌜ r ≡ surfaceNear (now (s .entry)) p ⌝ }
 {
     let n = s.len() / 2;
     let after = k + 1;
-    let start = start_over(first, no_edge(s));
+    let start = legless(start_over(first.hit, no_edge(s)));
     let before = surface_from(s, p, 0, k, start);
-    let best = nearer_of(before, first);
-    surface_from(s, p, after, n, best)
+    let best = nearer_near(before, first);
+    let found = surface_from(s, p, after, n, best);
+    found.hit
 }
 
 pub fn surface_near(s: &[f64], p: Vertex) -> CollisionHit

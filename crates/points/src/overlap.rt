@@ -25,7 +25,7 @@ pub fn deeper_inside(s: &[f64], p: Vertex, best: CollisionHit) -> CollisionHit
 {
     let k = likely_edge_at(s, p);
     let first = surface_first(s, p, k);
-    if first.distance <= -best.distance {
+    if first.hit.distance <= -best.distance {
         return best;
     }
     let near = surface_rest(s, p, k, first);

@@ -9,16 +9,33 @@ use Rattle.points.proofs.near.surface_first.Tie as tie
 edge-at-requires : tie.Need-edge-at-requires
 edge-at-requires c κs = search needs
 
+edge-is-surface-requires : tie.Need-edge-is-surface-requires
+edge-is-surface-requires c κs = search needs
+
 no-edge-requires : tie.Need-no-edge-requires
 no-edge-requires c κs = search needs
+
+legless-requires : tie.Need-legless-requires
+legless-requires c κs = search needs
 
 surface-edge-requires : tie.Need-surface-edge-requires
 surface-edge-requires c κs = search needs
 
 returns : tie.Need-returns
-returns c =
-    stepped _ _ _ _ _ (c .before .before .edge-at .ensures) (c .surface-edge .ensures)
-    ∙ ap (surfaceStep _ _ _) (c .before .no-edge .ensures)
+returns c = (
+  stepped _ _ _ _ _ (c .before .before .before .before .edge-at .ensures)
+      (c .before .before .before .edge-is-surface .ensures) (c .surface-edge .ensures .0)
+      ∙ ap (surfaceStep _ _ _) (c .before .legless .ensures .0 ∙ c .before .before .no-edge .ensures),
+  c .surface-edge .ensures .1,
+)
 
 pub surface-first-spec : {M : Type 1} → statement M
-surface-first-spec = tie.close (tie.spec edge-at-requires no-edge-requires surface-edge-requires returns)
+surface-first-spec =
+    tie.close
+    (tie.spec
+    edge-at-requires
+    edge-is-surface-requires
+    no-edge-requires
+    legless-requires
+    surface-edge-requires
+    returns)

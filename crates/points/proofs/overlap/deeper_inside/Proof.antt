@@ -16,7 +16,7 @@ returns : tie.Need-returns
 returns c =
     let start = c .before .before .before .before .before .before in
     no-deeper _ _ (start .pre .1) _ (start .pre .2) _ (c .before .before .before .before .likely-edge-at .ensures)
-    (true→T (start .good .1 .1 .0 .1 .1 .0 .1)) (c .before .before .before .surface-first .ensures) (c .if1 .taken)
+    (true→T (start .good .1 .1 .0 .1 .1 .0 .1)) (c .before .before .before .surface-first .ensures .0) (c .if1 .taken)
 
 surface-rest-requires : tie.Need-surface-rest-requires
 surface-rest-requires c κs = search needs
