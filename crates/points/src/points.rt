@@ -2,7 +2,7 @@
 ghost use mathlib.Core.Path.{_≡_};
 ghost use Prim.Native.Nat.{_<_, _≤_};
 ghost use lib.Ieee.{unlike};
-ghost use Rattle.profile.specs.Vertices.{count, vertexAt, endAt, any};
+ghost use Rattle.profile.specs.Vertices.{count, vertex, vertexAt, endAt, any};
 ghost use Rattle.points.specs.Points as points;
 ghost use Rattle.points.specs.Points.{crosses, pointInside, insideAxisEdge, inSection};
 ghost use Rattle.points.specs.Points.{pointDistance, sphereDistance};
@@ -97,10 +97,12 @@ pub fn in_section(s: &[f64], p: Vertex) -> bool
     false
 }
 
-pub fn signed_distance_2d(s: &[f64], p: Vertex) -> CollisionHit
+// The point (z, r), as two numbers: a Vertex just written is slow to read as a whole.
+fn signed_distance_at(s: &[f64], z: f64, r: f64) -> CollisionHit
     requires { ⌜ 3 ≤ count (now s) ⌝ }
-    ensures { λ r. ⌜ r ≡ pointDistance (now (s .entry)) p ⌝ }
+    ensures { λ o. ⌜ o ≡ pointDistance (now (s .entry)) (vertex z r) ⌝ }
 {
+    let p = Vertex { z, r };
     let near = surface_near(s, p);
     let best = near.distance;
     let witness = near.witness;
@@ -123,6 +125,13 @@ pub fn signed_distance_2d(s: &[f64], p: Vertex) -> CollisionHit
         distance: arith::infinity(),
         witness,
     }
+}
+
+pub fn signed_distance_2d(s: &[f64], p: Vertex) -> CollisionHit
+    requires { ⌜ 3 ≤ count (now s) ⌝ }
+    ensures { λ r. ⌜ r ≡ pointDistance (now (s .entry)) p ⌝ }
+{
+    signed_distance_at(s, p.z, p.r)
 }
 
 // Where a point of space lies in its half-plane.
