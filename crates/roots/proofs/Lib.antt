@@ -1,4 +1,5 @@
 -- Rounding by keys, roots of whole numbers over any format, and what the proofs of the functions share.
+pub mod Halves
 pub mod Numbers
 pub mod Squares
 pub mod Tests

@@ -3,6 +3,7 @@ use Prim.Native.Nat.{_%_, _*_, _+_, _-_, _/_, _<_, _^_, ℕ, _≤_}
 use mathlib.Core.Path.{_≡_}
 use lib.Ieee.{binary64, ofBits}
 use Rattle.roots.specs.Roots.{root, sqrt}
+use Rattle.roots.specs.declared.wide.Parts.{Parts}
 use Rattle.roots.specs.declared.wide.Wide.{Wide}
 
 abbrev pub sq : ℕ → ℕ
@@ -17,6 +18,25 @@ pub record Limbs (v h l : ℕ) (z : Wide) : Type 0 where
   pub value : whole z ≡ v
   pub hi-small : z .hi < 2 ^ h
   pub lo-small : z .lo < 2 ^ l
+
+-- ---- numbers in three parts
+abbrev pub total : Parts → ℕ
+total z = z .h * 2 ^ 56 + z .m * 2 ^ 29 + z .l
+
+-- z is the number v, in parts of at most 52, 54 and 56 bits
+pub record PartsOf (v : ℕ) (z : Parts) : Type 0 where
+  pub value : total z ≡ v
+  pub h-small : z .h < 2 ^ 52
+  pub m-small : z .m < 2 ^ 54
+  pub l-small : z .l < 2 ^ 56
+
+-- z is v or v - 1
+pub record AboutParts (v : ℕ) (z : Parts) : Type 0 where
+  pub least : total z ≤ v
+  pub most : v ≤ total z + 1
+  pub h-small : z .h < 2 ^ 54
+  pub m-small : z .m < 2 ^ 56
+  pub l-small : z .l < 2 ^ 58
 
 -- ---- candidates
 -- 53 bits, the highest set
@@ -130,6 +150,12 @@ pub record Picks (a b x y r : ℕ) : Type 0 where
 pub record HypotIs (p q r : ℕ) : Type 0 where
   pub fine : r ≤ 2047 * 2 ^ 52
   pub is : root binary64 (sq (ticksOf p) + sq (ticksOf q)) ≡ ofBits binary64 r
+
+-- and p and q are finite
+pub record FiniteHypotIs (p q r : ℕ) : Type 0 where
+  pub p-fine : p < 2047 * 2 ^ 52
+  pub q-fine : q < 2047 * 2 ^ 52
+  pub hypot-is : HypotIs p q r
 
 -- t is 0 where 4 ^ d divides the square of 2 m
 pub record Sticky (m d t : ℕ) : Type 0 where

@@ -3,13 +3,16 @@
 ghost use mathlib.Core.Path.{_≡_};
 ghost use Prim.Native.Nat.{_+_, _-_, _*_, _/_, _^_, _≤_, _<_};
 ghost use lib.Ieee.{binary64};
-ghost use Rattle.roots.specs.Steps.{NearestHalf, Rounded, HypotIs, Operands, Picks, Scaled, Sticky};
+ghost use Rattle.roots.specs.Steps.{FiniteHypotIs, HypotIs, NearestHalf, Operands, Picks};
+ghost use Rattle.roots.specs.Steps.{Rounded, Scaled, Significand, Sticky};
 ghost use Rattle.roots.specs.Roots as roots;
 use super::guess::guessed;
 use super::midpoint::bisect;
 use super::midpoint::nearest_of_three;
 use super::wide::square;
 use super::wide::sum_of_squares;
+use super::wide::sum_parts;
+use std::num::wrapping_sub_u64;
 
 const T52: u64 = 0x10_0000_0000_0000;
 
@@ -49,10 +52,10 @@ fn hypot_significand(mb: u64, ms: u64, d: u64, t: u64) -> u64
 
 // The rounded half of the root of a^2 + b^2 / 4^d, from any guess g; 0: not decided.
 fn nearest_half(a: u64, b: u64, d: u64, g: u64) -> u64
-    requires { ⌜ (a < 2 ^ 54) × (b < 2 ^ 54) × (d < 27) × (0 < g) × (g < 2 ^ 54) ⌝ }
+    requires { ⌜ (a < 2 ^ 54) × (b < 2 ^ 54) × (d < 27) × Significand g ⌝ }
     ensures { λ r. ⌜ (0 < r → NearestHalf (a * a + b * b / 2 ^ (2 * d)) r) ⌝ }
 {
-    let z = sum_of_squares(a, b, d);
+    let z = sum_parts(a, b, d);
     let v = nearest_of_three(z, g);
     if v < 3 {
         return g + v - 1;
@@ -82,42 +85,36 @@ fn hypot_searched(big: u64, small: u64) -> u64
     if r < INF { r } else { INF }
 }
 
-// 1: a is at least b; 0: it is not
-fn at_least(a: u64, b: u64) -> u64
-    ensures { λ r. ⌜ r < 2 ⌝ }
+// m * 2^s: m, or 2 * m where the root lies in big's own binade
+fn scaled(m: u64, s: u64) -> u64
+    requires { ⌜ (m < 2 ^ 53) × (s < 2) ⌝ }
+    ensures { λ r. ⌜ Scaled m (1 - s) r ⌝ }
 {
-    if a >= b { 1 } else { 0 }
+    m << s
 }
 
-// m, or 2 * m where the root lies in big's own binade
-fn scaled(m: u64, top: u64) -> u64
-    requires { ⌜ m < 2 ^ 53 ⌝ }
-    ensures { λ r. ⌜ Scaled m top r ⌝ }
-{
-    if top == 1 { m } else { 2 * m }
-}
-
-// The same of two normal values, by a guess that is tested, n being about the sum of their squares;
-// 0: not decided.
-fn hypot_tested(n: f64, big: u64, small: u64) -> u64
-    requires { ⌜ Operands (2 ^ 52) 2000 big small ⌝ }
+// The same of two normal values, by a guess that is tested, n being about the sum of their squares
+// and nb its bits; 0: not decided.
+fn hypot_tested(n: f64, nb: u64, big: u64, small: u64) -> u64
+    requires { ⌜ (nb < 2 ^ 63) × Operands (2 ^ 52) 2000 big small ⌝ }
     ensures { λ r. ⌜ (0 < r → HypotIs big small r) ⌝ }
 {
     let eb = big / T52;
     let d = eb - small / T52;
-    if d < 27 {
-        if n > 0.0 {
-            let nb = f64::to_bits(n) % T63;
-            // whether the root is likely to lie in the binade above big's
-            let top = at_least(nb / T52 + 1021, 2 * eb);
-            let aa = scaled(big % T52 + T52, top);
-            let bb = scaled(small % T52 + T52, top);
-            let g = guessed(n, nb);
-            let r = nearest_half(aa, bb, d, g);
-            if r > T52 {
-                if r <= T53 {
-                    return (eb - 1 + top) * T52 + r;
-                }
+    if d > 26 {
+        return big;
+    }
+    // the exponent that the root is likely to have, and how far it is below the one above big's
+    let er = (nb / 2 + 0x1ff8_0000_0000_0000) / T52;
+    let s = wrapping_sub_u64(eb + 1, er);
+    if s < 2 {
+        let aa = scaled(big % T52 + T52, s);
+        let bb = scaled(small % T52 + T52, s);
+        let g = guessed(n, nb / 2);
+        let r = nearest_half(aa, bb, d, g);
+        if r > T52 {
+            if r <= T53 {
+                return (er - 1) * T52 + r;
             }
         }
     }
@@ -136,25 +133,19 @@ fn smaller(a: u64, b: u64) -> u64
     if a < b { a } else { b }
 }
 
-// The bits of the hypotenuse of two finite values, n being about the sum of their squares.
-fn hypot_bits(n: f64, a: u64, b: u64) -> u64
+// The bits of the hypotenuse of two finite values.
+fn hypot_bits(a: u64, b: u64) -> u64
     requires { ⌜ (a < 2047 * 2 ^ 52) × (b < 2047 * 2 ^ 52) ⌝ }
     ensures { λ r. ⌜ HypotIs a b r ⌝ }
 {
     let big = larger(a, b);
     let small = smaller(a, b);
-    if small >= T52 {
-        if big < 2000 * T52 {
-            let r = hypot_tested(n, big, small);
-            if r > 0 {
-                return r;
-            }
-        }
-    }
     hypot_searched(big, small)
 }
 
-pub fn hypot(a: f64, b: f64) -> f64
+// The hypotenuse of any two values. It is called twice, so that it is compiled apart from the quick
+// way and takes no registers there.
+fn hypot_any(a: f64, b: f64) -> f64
     ensures { λ r. ⌜ r ≡ roots.hypot binary64 a b ⌝ }
 {
     if a == a {
@@ -163,7 +154,7 @@ pub fn hypot(a: f64, b: f64) -> f64
             let ub = f64::to_bits(b) % T63;
             if ua < INF {
                 if ub < INF {
-                    return f64::from_bits(hypot_bits(a * a + b * b, ua, ub));
+                    return f64::from_bits(hypot_bits(ua, ub));
                 }
                 return f64::from_bits(INF);
             }
@@ -182,4 +173,38 @@ pub fn hypot(a: f64, b: f64) -> f64
         return f64::from_bits(INF);
     }
     0.0 / 0.0
+}
+
+// The bits of the hypotenuse of two values of middling size, or of one and next to nothing, n being
+// about the sum of their squares and nb its bits; 0: not decided.
+fn hypot_quick(n: f64, nb: u64, a: u64, b: u64) -> u64
+    requires { ⌜ nb < 2 ^ 63 ⌝ }
+    ensures { λ r. ⌜ (0 < r → FiniteHypotIs a b r) ⌝ }
+{
+    let big = larger(a, b);
+    let small = smaller(a, b);
+    if big < 2000 * T52 {
+        if small >= T52 {
+            return hypot_tested(n, nb, big, small);
+        }
+        if big >= 28 * T52 {
+            return big;
+        }
+    }
+    0
+}
+
+pub fn hypot(a: f64, b: f64) -> f64
+    ensures { λ r. ⌜ r ≡ roots.hypot binary64 a b ⌝ }
+{
+    let n = a * a + b * b;
+    if n == n {
+        let nb = f64::to_bits(n) % T63;
+        let r = hypot_quick(n, nb, f64::to_bits(a) % T63, f64::to_bits(b) % T63);
+        if r > 0 {
+            return f64::from_bits(r);
+        }
+        return hypot_any(a, b);
+    }
+    hypot_any(a, b)
 }

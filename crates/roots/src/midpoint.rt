@@ -1,49 +1,47 @@
 // Which candidate is nearest to a root: whole squares are compared at the midpoints of two
 // candidates.
 ghost use Prim.Native.Nat.{_+_, _^_, _≤_, _<_};
-ghost use Rattle.roots.specs.Steps.{whole, NearestOfThree, Tells, RoundsUpAt, RoundsDownAt};
+ghost use Rattle.roots.specs.Steps.{whole, total, Significand, NearestOfThree, Tells, RoundsUpAt, RoundsDownAt};
 ghost use Rattle.roots.specs.Steps.{RoundsUp, RoundsDown, Between, Rounded};
+use super::wide::Parts;
 use super::wide::Wide;
 use super::wide::square;
+use super::wide::square_parts;
+use std::num::wrapping_sub_u64;
+
+// 1: a is at least b; 0: it is not
+fn at_least(a: u64, b: u64) -> u64
+    ensures { λ r. ⌜ Tells (b ≤ a) (a < b) r ⌝ }
+{
+    if a >= b { 1 } else { 0 }
+}
 
 // Which of k - 1, k and k + 1 (as 0, 1 and 2) is nearest to half the root of z + f, for every f
-// from 0 up to, and not with, 1; 3: not decided.
-pub fn nearest_of_three(z: Wide, k: u64) -> u64
-    requires { ⌜ (z .hi < 2 ^ 56) × (z .lo < 2 ^ 56) × (0 < k) × (k < 2 ^ 54) ⌝ }
-    ensures { λ r. ⌜ NearestOfThree (whole z) k r ⌝ }
+// from 0 up to, and not with, 2; 3: not decided.
+pub fn nearest_of_three(z: Parts, k: u64) -> u64
+    requires { ⌜ (z .h < 2 ^ 54) × (z .m < 2 ^ 56) × (z .l < 2 ^ 58) × Significand k ⌝ }
+    ensures { λ r. ⌜ NearestOfThree (total z) k r × NearestOfThree (total z + 1) k r ⌝ }
 {
-    let s = square(2 * k);
-    let h = z.hi + 4;
-    if s.hi > h {
+    let s = square_parts(2 * k);
+    // z - s, from the highest part on: each step must be small for the next one to fit
+    let h = wrapping_sub_u64(z.h + 0x2000_0000, s.h);
+    if h >= 0x4000_0000 {
         return 3;
     }
-    let f = h - s.hi;
-    if f > 8 {
+    let t = wrapping_sub_u64(h * 0x800_0000 + z.m, s.m + 0xff_ffff_c000_0000);
+    if t >= 0x8000_0000 {
         return 3;
     }
-    // x - y = z - (2 * k)^2
-    let x = f * 0x100_0000_0000_0000 + z.lo;
-    let y = 0x400_0000_0000_0000 + s.lo;
-    let w = 4 * k;
-    if x + 3 * w < y + 10 {
-        return 3;
+    // z - (2 * k)^2 + 12 * k - 10: 8 * k of it to a candidate
+    let e = wrapping_sub_u64(t * 0x2000_0000 + z.l + 12 * k, s.l + 0x800_0000_0000_000a);
+    let once = at_least(e, 8 * k);
+    let twice = at_least(e, 16 * k);
+    let v = once + twice;
+    let rest = e - v * (8 * k);
+    if rest < 8 * k - 10 {
+        return v;
     }
-    if x > y + 3 * w + 8 {
-        return 3;
-    }
-    if x == y + w + 1 {
-        return 3;
-    }
-    if x + w == y + 1 {
-        return 3;
-    }
-    if x > y + w {
-        return 2;
-    }
-    if x + w <= y {
-        return 0;
-    }
-    1
+    3
 }
 
 // 1: the root lies above the midpoint m / 2, or at it with k odd; 0: not.

@@ -8,6 +8,7 @@ ghost use Rattle.roots.specs.Roots as roots;
 use super::guess::guessed;
 use super::midpoint::bisect;
 use super::midpoint::nearest_of_three;
+use super::wide::in_parts;
 use super::wide::widened;
 
 const T52: u64 = 0x10_0000_0000_0000;
@@ -51,8 +52,8 @@ fn sqrt_tested(x: f64, b: u64) -> u64
     let m = b % T52 + T52;
     let e = b / T52 + 1023;
     let z = radicand(m, e);
-    let g = guessed(x, b);
-    let w = widened(z);
+    let g = guessed(x, b / 2);
+    let w = in_parts(z);
     let v = nearest_of_three(w, g);
     if v < 3 {
         return (e / 2 - 1) * T52 + (g + v - 1);

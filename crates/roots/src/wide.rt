@@ -1,6 +1,8 @@
-// Numbers of up to 112 bits in two limbs of 56: squares, and sums of them.
-ghost use Prim.Native.Nat.{_+_, _*_, _/_, _^_, _≤_, _<_};
-ghost use Rattle.roots.specs.Steps.{Limbs, whole};
+// Numbers of up to 112 bits, in two limbs of 56 or in three parts that overlap: squares, and sums
+// of them.
+ghost use mathlib.Core.Path.{_≡_};
+ghost use Prim.Native.Nat.{_+_, _*_, _/_, _%_, _^_, _≤_, _<_};
+ghost use Rattle.roots.specs.Steps.{AboutParts, Limbs, PartsOf, whole};
 
 // hi * 2^56 + lo
 pub struct Wide {
@@ -67,5 +69,61 @@ pub fn widened(m: u64) -> Wide
     Wide {
         hi: m / 4,
         lo: m % 4 * 0x40_0000_0000_0000,
+    }
+}
+
+// h * 2^56 + m * 2^29 + l, carries left where they are
+pub struct Parts {
+    pub h: u64,
+    pub m: u64,
+    pub l: u64,
+}
+
+// c * c
+pub fn square_parts(c: u64) -> Parts
+    requires { ⌜ c < 2 ^ 54 ⌝ }
+    ensures { λ r. ⌜ PartsOf (c * c) r ⌝ }
+{
+    let c1 = c / 0x1000_0000;
+    let c0 = c % 0x1000_0000;
+    let h = c1 * c1;
+    let m = c1 * c0;
+    let l = c0 * c0;
+    Parts { h: h, m: m, l: l }
+}
+
+// the part of b below 2^d
+fn below(b: u64, d: u64) -> u64
+    requires { ⌜ (b < 2 ^ 54) × (d < 27) ⌝ }
+    ensures { λ r. ⌜ r ≡ b % 2 ^ d ⌝ }
+{
+    b - ((b >> d) << d)
+}
+
+// a * a + b * b / 4^d, or 1 less
+pub fn sum_parts(a: u64, b: u64, d: u64) -> Parts
+    requires { ⌜ (a < 2 ^ 54) × (b < 2 ^ 54) × (d < 27) ⌝ }
+    ensures { λ r. ⌜ AboutParts (a * a + b * b / 2 ^ (2 * d)) r ⌝ }
+{
+    let top = b >> d;
+    let low = below(b, d);
+    let p = square_parts(a);
+    let q = square_parts(top);
+    let x = 2 * top * low;
+    let l = p.l + q.l + (x >> d);
+    let h = p.h + q.h;
+    let m = p.m + q.m;
+    Parts { h: h, m: m, l: l }
+}
+
+// m * 2^54
+pub fn in_parts(m: u64) -> Parts
+    requires { ⌜ m < 2 ^ 54 ⌝ }
+    ensures { λ r. ⌜ PartsOf (m * 2 ^ 54) r ⌝ }
+{
+    Parts {
+        h: m / 4,
+        m: m % 4 * 0x200_0000,
+        l: 0,
     }
 }

@@ -5,7 +5,7 @@ use mathlib.Core.Path.{ap, refl, subst, sym, _∙_, _≡_}
 use native.Mathlib.Omega.{arith}
 use lib.Arith.{le→nltb, lt→nleb}
 use lib.Dec.{eqb, leb, le→leb, ltb, lt→ltb, T}
-use lib.Ieee.{binary64, down, eq, fin, Float, inf, isNan, level, lt, nan, nanBits, ofBits, up}
+use lib.Ieee.{add, binary64, down, eq, fin, Float, inf, isNan, level, lt, mul, nan, nanBits, ofBits, up}
 use lib.Ieee.Bits.{is-false, is-true, nanBits-above, nanBits-is}
 
 -- ---- signs, and the patterns of NaNs
@@ -61,6 +61,28 @@ unfolding eq isNan
 like-itself nan h = no h
 like-itself (inf s) h = tt
 like-itself (fin s m e) h = tt
+
+-- ---- a sum of squares is a NaN where an operand is
+sum-nan : (x : Float) → add binary64 x nan ≡ nan
+unfolding add
+sum-nan nan = refl
+sum-nan (inf s) = refl
+sum-nan (fin s m e) = refl
+
+abbrev squares : Float → Float → Float
+squares x y = add binary64 (mul binary64 x x) (mul binary64 y y)
+
+pub squares-left : (x y : Float) → eq (squares x y) (squares x y) ≡ true → T (not (isNan x))
+unfolding eq isNan add mul
+squares-left nan y h = no h
+squares-left (inf s) y h = tt
+squares-left (fin s m e) y h = tt
+
+pub squares-right : (x y : Float) → eq (squares x y) (squares x y) ≡ true → T (not (isNan y))
+unfolding eq isNan mul
+squares-right x nan h = no (subst (λ (z : Float). eq z z ≡ true) (sum-nan (mul binary64 x x)) h)
+squares-right x (inf s) h = tt
+squares-right x (fin s m e) h = tt
 
 pub greater : (x y : Float) → lt x y ≡ true → T (not (isNan y))
 unfolding lt isNan

@@ -203,6 +203,9 @@ gap-of p q h = omega arith
 pub any-far : (p q eb es : ℕ) → eb ≡ exponentOf p → es ≡ exponentOf q → Operands 0 2047 p q → 27 ≤ eb - es → HypotIs p q p
 any-far p q eb es e f h k = far-law p q (exponentOf p - exponentOf q) (gap-of p q (h .ordered)) (omega arith) (h .fine)
 
+pub far-bits : (p q : ℕ) → Operands 0 2047 p q → 27 ≤ exponentOf p - exponentOf q → HypotIs p q p
+far-bits p q h k = any-far p q (exponentOf p) (exponentOf q) refl refl h k
+
 abbrev Shift : ℕ → ℕ → ℕ → ℕ → Type 0
 Shift p q eb es = q - es * 2 ^ 52 ≤ (p - eb * 2 ^ 52) * 2 ^ (eb - es)
 
@@ -234,6 +237,21 @@ fast-bits p q top a b r h t x y i m n =
     (subst (λ (z : ℕ). Scaled z top a) (let g : p % 2 ^ 52 + 2 ^ 52 ≡ significandOf p = omega arith in g) x)
     (subst (λ (z : ℕ). Scaled z top b) (let g : q % 2 ^ 52 + 2 ^ 52 ≡ significandOf q = omega arith in g) y) i m n
     (omega arith)
+
+-- the same with the root's exponent e, s binades below the one above p's
+pub fast-binade : (p q s e a b r : ℕ) → Operands (2 ^ 52) 2000 p q → s < 2 → (s + e) % 2 ^ 64 ≡ p / 2 ^ 52 + 1 → e < 2 ^ 63
+    → Scaled (p % 2 ^ 52 + 2 ^ 52) (1 - s) a → Scaled (q % 2 ^ 52 + 2 ^ 52) (1 - s) b
+    → NearestHalf (sq a + sq b / 2 ^ (2 * (p / 2 ^ 52 - q / 2 ^ 52))) r → 2 ^ 52 < r → r ≤ 2 ^ 53
+    → HypotIs p q ((e - 1) * 2 ^ 52 + r)
+fast-binade p q s e a b r h t f g x y i m n = subst (λ (z : ℕ). HypotIs p q (z * 2 ^ 52 + r))
+    (let w : p / 2 ^ 52 - 1 + (1 - s) ≡ e - 1 = omega (arith, h .at-least, h .ordered) in w)
+    (fast-bits p q (1 - s) a b r h (omega arith) x y i m n)
+
+pub both-below : (a b p n : ℕ) → Picks a b b a p → p < n → (a < n) × (b < n)
+both-below a b p n x l = elim (decide b a) [
+  | inl h ↦ let u = x .not-less h in (omega arith, omega arith)
+  | inr h ↦ let u = x .less h in (omega arith, omega arith)
+]
 
 pub operands : (a b p q : ℕ) → a < 2047 * 2 ^ 52 → b < 2047 * 2 ^ 52 → Picks a b b a p → Picks a b a b q
     → Operands 0 2047 p q

@@ -1,5 +1,5 @@
 -- `roots::guess::guess` meets its contract.
-use Prim.Native.Nat.{_-_, _/_}
+use Prim.Native.Nat.{_-_}
 use native.Mathlib.Omega.{arith}
 use borrow.Author.Needs.{needs}
 use Rattle.roots.proofs.Pattern.Special.{no-nan}
@@ -10,7 +10,7 @@ sub-y0 : tie.Need-sub-y0
 sub-y0 c = search needs
 
 float-from-bits-y0 : tie.Need-float-from-bits-y0
-float-from-bits-y0 c = no-nan (6910471404284329946 - c .args .bits / 2) (omega arith)
+float-from-bits-y0 c = no-nan (6910471404284329946 - c .args .half) (omega arith)
 
 returns : tie.Need-returns
 returns c = search needs

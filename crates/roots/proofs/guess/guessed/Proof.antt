@@ -1,5 +1,5 @@
 -- `roots::guess::guessed` meets its contract.
-use Rattle.roots.proofs.Pattern.Special.{greater}
+use Rattle.roots.proofs.Pattern.Special.{like-itself}
 use borrow.Author.Needs.{needs}
 use Rattle.roots.proofs.guess.guessed.Statement.{statement}
 use Rattle.roots.proofs.guess.guessed.Tie as tie
@@ -8,7 +8,7 @@ guess-requires : tie.Need-guess-requires
 guess-requires c κs = search needs
 
 float-to-bits-result : tie.Need-float-to-bits-result
-float-to-bits-result c = greater _ _ (c .if1 .taken)
+float-to-bits-result c = like-itself _ (c .if1 .taken)
 
 add-result : tie.Need-add-result
 add-result c = search needs

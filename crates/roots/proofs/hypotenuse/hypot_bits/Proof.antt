@@ -1,4 +1,4 @@
--- `roots::hypotenuse::hypot_bits`. The larger and the smaller operand are a and b in either order, and the hypotenuse does not mind.
+-- `roots::hypotenuse::hypot_bits`. The larger and the smaller operand are a and b in either order: the hypotenuse is the same.
 use native.Mathlib.Omega.{arith}
 use Rattle.roots.proofs.Root.HypotCore.{operands, either-way}
 use borrow.Author.Needs.{needs}
@@ -11,25 +11,12 @@ larger-requires c κs = search needs
 smaller-requires : tie.Need-smaller-requires
 smaller-requires c κs = search needs
 
-mul-if2 : tie.Need-mul-if2
-mul-if2 c = search needs
-
-hypot-tested-requires : tie.Need-hypot-tested-requires
-hypot-tested-requires c κs =
-    let o = operands _ _ _ _ (omega arith) (omega arith) (c .before .before .before .larger .ensures)
-    (c .before .before .smaller .ensures) in
-    search needs
+hypot-searched-requires : tie.Need-hypot-searched-requires
+hypot-searched-requires c κs = operands _ _ _ _ (omega arith) (omega arith) (c .before .larger .ensures)
+    (c .smaller .ensures)
 
 returns : tie.Need-returns
-returns c = either-way _ _ _ _ _ (c .before .before .before .before .before .larger .ensures)
-    (c .before .before .before .before .smaller .ensures) (c .before .hypot-tested .ensures (c .if3 .taken))
-
-hypot-searched-requires : tie.Need-hypot-searched-requires
-hypot-searched-requires c κs = operands _ _ _ _ (omega arith) (omega arith) (c .before .before .larger .ensures)
-    (c .before .smaller .ensures)
-
-returns-2 : tie.Need-returns-2
-returns-2 c = either-way _ _ _ _ _ (c .before .before .before .larger .ensures) (c .before .before .smaller .ensures)
+returns c = either-way _ _ _ _ _ (c .before .before .larger .ensures) (c .before .smaller .ensures)
     (c .hypot-searched .ensures)
 
 pub hypot-bits-spec : {M : Type 1} → statement M
@@ -38,8 +25,5 @@ hypot-bits-spec =
     (tie.spec
     larger-requires
     smaller-requires
-    mul-if2
-    hypot-tested-requires
-    returns
     hypot-searched-requires
-    returns-2)
+    returns)

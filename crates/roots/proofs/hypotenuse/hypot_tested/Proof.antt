@@ -1,9 +1,8 @@
--- `roots::hypotenuse::hypot_tested`. What passes the test is the root.
-use Prim.Native.Nat.{_<_}
+-- `roots::hypotenuse::hypot_tested`. 27 binades apart the larger operand is the root; nearer, what passes the test is.
+use Prim.Native.Nat.{_<_, zero-le}
 use native.Mathlib.Nat.{lt-irrefl}
 use native.Mathlib.Omega.{arith}
-use Rattle.roots.proofs.Root.HypotCore.{fast-bits}
-use Rattle.roots.proofs.Pattern.Special.{greater}
+use Rattle.roots.proofs.Root.HypotCore.{far-bits, fast-binade}
 use borrow.Author.Needs.{needs}
 use Rattle.roots.proofs.hypotenuse.hypot_tested.Statement.{statement}
 use Rattle.roots.proofs.hypotenuse.hypot_tested.Tie as tie
@@ -11,17 +10,14 @@ use Rattle.roots.proofs.hypotenuse.hypot_tested.Tie as tie
 sub-d : tie.Need-sub-d
 sub-d c = search needs
 
-float-to-bits-nb : tie.Need-float-to-bits-nb
-float-to-bits-nb c = greater _ _ (c .if2 .taken)
+add-er : tie.Need-add-er
+add-er c = search needs
 
-add-at-least : tie.Need-add-at-least
-add-at-least c = search needs
+add-wrapping-sub-u64 : tie.Need-add-wrapping-sub-u64
+add-wrapping-sub-u64 c = search needs
 
-mul-at-least : tie.Need-mul-at-least
-mul-at-least c = search needs
-
-at-least-requires : tie.Need-at-least-requires
-at-least-requires c κs = search needs
+wrapping-sub-u64-requires : tie.Need-wrapping-sub-u64-requires
+wrapping-sub-u64-requires c κs = search needs
 
 add-scaled : tie.Need-add-scaled
 add-scaled c = search needs
@@ -44,25 +40,24 @@ nearest-half-requires c κs = search needs
 sub-result : tie.Need-sub-result
 sub-result c = search needs
 
-add-result : tie.Need-add-result
-add-result c = search needs
-
 mul-result : tie.Need-mul-result
 mul-result c = search needs
 
-add-result-2 : tie.Need-add-result-2
-add-result-2 c = search needs
+add-result : tie.Need-add-result
+add-result c = search needs
 
 returns : tie.Need-returns
-returns c = λ h. fast-bits _ _ _ _ _ _
-    (c .before .before .before .before .before .before .before .before .before .pre)
-    (c .before .before .before .before .before .before .at-least .ensures)
+returns c = λ h. far-bits _ _
+    (record { at-least = zero-le; ordered = c .before .pre .1 .ordered; fine = omega arith }) (omega arith)
+
+returns-2 : tie.Need-returns-2
+returns-2 c = λ h. fast-binade _ _ _ _ _ _ _
+    (c .before .before .before .before .before .before .before .before .before .pre .1)
+    (c .before .before .before .before .before .before .if2 .taken)
+    (c .before .before .before .before .before .before .before .wrapping-sub-u64 .ensures) (omega arith)
     (c .before .before .before .before .before .scaled .ensures)
     (c .before .before .before .before .scaled2 .ensures) (c .before .before .nearest-half .ensures (omega arith))
     (c .before .if3 .taken) (c .if4 .taken)
-
-returns-2 : tie.Need-returns-2
-returns-2 c = λ (h : 0 < 0). absurd (lt-irrefl 0 h)
 
 returns-3 : tie.Need-returns-3
 returns-3 c = λ (h : 0 < 0). absurd (lt-irrefl 0 h)
@@ -78,10 +73,10 @@ hypot-tested-spec =
     tie.close
     (tie.spec
     sub-d
-    float-to-bits-nb
-    add-at-least
-    mul-at-least
-    at-least-requires
+    returns
+    add-er
+    add-wrapping-sub-u64
+    wrapping-sub-u64-requires
     add-scaled
     scaled-requires
     add-scaled-2
@@ -89,10 +84,8 @@ hypot-tested-spec =
     guessed-requires
     nearest-half-requires
     sub-result
-    add-result
     mul-result
-    add-result-2
-    returns
+    add-result
     returns-2
     returns-3
     returns-4

@@ -19,8 +19,8 @@ radicand-requires c κs = search needs
 guessed-requires : tie.Need-guessed-requires
 guessed-requires c κs = search needs
 
-widened-requires : tie.Need-widened-requires
-widened-requires c κs = search needs
+in-parts-requires : tie.Need-in-parts-requires
+in-parts-requires c κs = search needs
 
 nearest-of-three-requires : tie.Need-nearest-of-three-requires
 nearest-of-three-requires c κs = search needs
@@ -43,7 +43,7 @@ add-result-2 c = search needs
 returns : tie.Need-returns
 returns c = λ h.
     sqrt-checked _ _ _ _ _ _ (omega arith) (omega arith) (c .before .before .before .before .radicand .ensures)
-    (c .before .before .widened .ensures .value) (omega arith) (c .before .nearest-of-three .ensures .nearest (c .if1 .taken))
+    (c .before .before .in-parts .ensures .value) (omega arith) (c .before .nearest-of-three .ensures .0 .nearest (c .if1 .taken))
 
 returns-2 : tie.Need-returns-2
 returns-2 c = λ (h : 0 < 0). absurd (lt-irrefl 0 h)
@@ -56,7 +56,7 @@ sqrt-tested-spec =
     add-e
     radicand-requires
     guessed-requires
-    widened-requires
+    in-parts-requires
     nearest-of-three-requires
     sub-result
     mul-result

@@ -1,27 +1,10 @@
 -- `roots::wide::square`. The square of a number of two digits of 28 bits, each product below 2^56.
-use mathlib.Core.Path.{_≡_, sym, ap, _∙_}
-use Prim.Native.Nat.{ℕ, _+_, _*_, _/_, _%_, _^_, _<_}
-use native.Mathlib.Nat.{le-of-lt, lt-of-le-of-lt, mul-le-mul-left}
+use Prim.Native.Nat.{ℕ, _*_, _/_, _%_, _^_, _<_}
 use native.Mathlib.Omega.{arith}
-use lib.Pow.{shl-lt}
+use Rattle.roots.proofs.Halves.{digits, product}
 use borrow.Author.Needs.{needs}
 use Rattle.roots.proofs.wide.square.Statement.{statement}
 use Rattle.roots.proofs.wide.square.Tie as tie
-
-product : {a b : ℕ} (s t : ℕ) → a < 2 ^ s → b < 2 ^ t → a * b < 2 ^ (s + t)
-product {a} s t ha hb = lt-of-le-of-lt (mul-le-mul-left a (le-of-lt hb)) (shl-lt s t ha)
-
--- the square of a number of two digits
-expand : (P a b : ℕ) → (a * P + b) * (a * P + b) ≡ a * a * (P * P) + 2 * a * b * P + b * b
-expand P a b = omega arith
-
--- c is its two digits
-whole : (c : ℕ) → c / 268435456 * 268435456 + c % 268435456 ≡ c
-whole c = omega arith
-
-digits : (c : ℕ) → c * c ≡ c / 268435456 * (c / 268435456) * 72057594037927936 + (2 * (c / 268435456) * (c %
-    268435456)) * 268435456 + c % 268435456 * (c % 268435456)
-digits c = ap (λ (n : ℕ). n * n) (sym (whole c)) ∙ expand 268435456 (c / 268435456) (c % 268435456)
 
 hi-lt : (c : ℕ) → c < 2 ^ 55 → c / 268435456 < 2 ^ 27
 hi-lt c h = omega arith
