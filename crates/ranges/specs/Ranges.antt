@@ -52,7 +52,6 @@ gapBetween g h =
 unfoldable pub farApart : Float → Range → Range → Bool
 farApart least g h = (least ≼ g .lo ⊖ h .hi) || (least ≼ h .lo ⊖ g .hi)
 
-
 -- one side of a box, p and q as `clipSide` has them, alone leaves nothing of a segment
 unfoldable pub sideMisses : Float → Float → Bool
 sideMisses p q =

@@ -3,18 +3,16 @@ ghost use Prim.Native.Nat.{_<_, _≤_};
 ghost use Rattle.profile.specs.Vertices.{count};
 use profile::Aabb;
 use profile::Vertex;
-use profile::end_at;
 use profile::vertex_at;
 
-// How far an edge lies from the box, squared and roughly.
-fn rough_gap(a: Vertex, b: Vertex, x: Aabb) -> f64 {
-    let z = arith::max(arith::min(a.z, b.z) - x.z1, x.z0 - arith::max(a.z, b.z));
-    let r = arith::max(arith::min(a.r, b.r) - x.r1, x.r0 - arith::max(a.r, b.r));
-    let dz = arith::max(z, 0.0);
-    let dr = arith::max(r, 0.0);
+// How far a vertex lies from the box, squared and roughly.
+fn rough_gap(a: Vertex, x: Aabb) -> f64 {
+    let dz = a.z - arith::clamp(a.z, x.z0, x.z1);
+    let dr = a.r - arith::clamp(a.r, x.r0, x.r1);
     dz * dz + dr * dr
 }
 
+// The edge that ends at the nearest vertex, or edge 0.
 pub fn likely_edge(s: &[f64], x: Aabb) -> usize
     requires { ⌜ 3 ≤ count (now s) ⌝ }
     ensures { λ r. ⌜ r < count (now (s .entry)) ⌝ }
@@ -24,14 +22,17 @@ pub fn likely_edge(s: &[f64], x: Aabb) -> usize
     let mut near = 0;
     let mut k = 0;
     while k < n {
-        let d = rough_gap(vertex_at(s, k), end_at(s, k), x);
+        let d = rough_gap(vertex_at(s, k), x);
         if d < least {
             least = d;
             near = k;
         }
         k += 1;
     }
-    near
+    if near > 0 {
+        return near - 1;
+    }
+    0
 }
 
 // The hint, if it is an edge.

@@ -35,16 +35,17 @@ returns c = record {
 
 nearest-side-requires : tie.Need-nearest-side-requires
 nearest-side-requires c κs =
-    let start = c .before .before in
-    (start .pre,
-    record {
-      a-z = true→T (start .good .0 .1 .1 .0 .1 .1 .0 .1);
-      a-r = true→T (start .good .0 .1 .1 .0 .1 .1 .1 .0 .1);
-      z0 = true→T (start .good .1 .0 .1 .1 .0 .1);
-      z1 = true→T (start .good .1 .0 .1 .1 .1 .0 .1);
-      r0 = true→T (start .good .1 .0 .1 .1 .1 .1 .0 .1);
-      r1 = true→T (start .good .1 .0 .1 .1 .1 .1 .1 .0 .1);
-    })
+    let start = c .before .before in (
+      start .pre,
+      record {
+        a-z = true→T (start .good .0 .1 .1 .0 .1 .1 .0 .1);
+        a-r = true→T (start .good .0 .1 .1 .0 .1 .1 .1 .0 .1);
+        z0 = true→T (start .good .1 .0 .1 .1 .0 .1);
+        z1 = true→T (start .good .1 .0 .1 .1 .1 .0 .1);
+        r0 = true→T (start .good .1 .0 .1 .1 .1 .1 .0 .1);
+        r1 = true→T (start .good .1 .0 .1 .1 .1 .1 .1 .0 .1);
+      },
+    )
 
 returns-2 : tie.Need-returns-2
 unfolding edgeBox

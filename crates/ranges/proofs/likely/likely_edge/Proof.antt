@@ -20,9 +20,6 @@ loop-holds c = search needs
 vertex-at-requires : tie.Need-vertex-at-requires Inv-loop μ-loop
 vertex-at-requires c κs = search needs
 
-end-at-requires : tie.Need-end-at-requires Inv-loop μ-loop
-end-at-requires c κs = search needs
-
 rough-gap-requires : tie.Need-rough-gap-requires Inv-loop μ-loop
 rough-gap-requires c κs = search needs
 
@@ -35,8 +32,14 @@ loop-less c = search needs
 loop-again : tie.Need-loop-again Inv-loop μ-loop
 loop-again c = ⊎-elim (λ w. search needs) (λ w. search needs) (c .if1 .came)
 
+sub-result : tie.Need-sub-result Inv-loop μ-loop
+sub-result c = search needs
+
 returns : tie.Need-returns Inv-loop μ-loop
 returns c = search needs
+
+returns-2 : tie.Need-returns-2 Inv-loop μ-loop
+returns-2 c = search needs
 
 pub likely-edge-spec : {M : Type 1} → statement M
 likely-edge-spec =
@@ -47,9 +50,10 @@ likely-edge-spec =
     infinity-requires
     loop-holds
     vertex-at-requires
-    end-at-requires
     rough-gap-requires
     add-k
     loop-less
     loop-again
-    returns)
+    sub-result
+    returns
+    returns-2)
