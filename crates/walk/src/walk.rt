@@ -1,6 +1,6 @@
 // The walk over the pieces of a cylinder across the spindle.
 ghost use mathlib.Core.Path.{_≡_};
-ghost use mathlib.Core.Bool.{true, _&&_};
+ghost use mathlib.Core.Bool.{true, false, _&&_};
 ghost use Prim.Native.Nat.{_≤_, max};
 ghost use Rattle.arith.specs.F64.{_≺_};
 ghost use Rattle.profile.specs.Vertices.{count, hit};
@@ -78,6 +78,18 @@ fn cut_off(least: f64, best: CollisionHit, boxes: usize, most: usize) -> Counted
     }
 }
 
+// What is reported of one that ends.
+fn uncut(best: CollisionHit, boxes: usize, most: usize) -> CountedHit
+    ensures { λ r. ⌜ r ≡ record { hit = best; boxes = boxes; waiting = most; cut = false } ⌝ }
+{
+    CountedHit {
+        hit: best,
+        boxes,
+        waiting: most,
+        cut: false,
+    }
+}
+
 fn larger(a: usize, b: usize) -> usize
     ensures { λ r. ⌜ r ≡ max a b ⌝ }
 {
@@ -98,6 +110,7 @@ fn walk_with(s: &[f64], b: RadialBand, tol: f64, cap: usize, intervals: usize) -
     let mut least = arith::infinity();
     let mut boxes: usize = 0;
     let mut most: usize = 1;
+    let mut hint = best.witness.edge;
     while n > 0 {
         if boxes == cap {
             return cut_off(least, best, boxes, most);
@@ -107,7 +120,7 @@ fn walk_with(s: &[f64], b: RadialBand, tol: f64, cap: usize, intervals: usize) -
         let z0 = waiting[at];
         let z1 = waiting[at + 1];
         let p = Piece { z0, z1 };
-        let m = measure(s, b, p, ends, best.witness.edge);
+        let m = measure(s, b, p, ends, hint);
         let halve = halved(tol, m, best, p);
         n = push_halves(&mut waiting, last, p, halve);
         ends = next_ends(&mut lefts, last, b, p, ends, halve);
@@ -115,13 +128,9 @@ fn walk_with(s: &[f64], b: RadialBand, tol: f64, cap: usize, intervals: usize) -
         least = arith::min(least, m.hit.distance);
         boxes += 1;
         most = larger(most, n);
+        hint = m.hit.witness.edge;
     }
-    CountedHit {
-        hit: best,
-        boxes,
-        waiting: most,
-        cut: false,
-    }
+    uncut(best, boxes, most)
 }
 
 // One box, nothing waiting, uncut.

@@ -1,7 +1,7 @@
 -- `walk::walk::walk_with`. Array and locals are a state of the definition's walk, from start to end.
 use Prim.Native.Nat.{_-_}
 use native.Mathlib.Omega.{arith}
-use mathlib.Core.Path.{refl}
+use mathlib.Core.Path.{refl, _∙_}
 use Rattle.walk.proofs.Loop.{State, begun, ended, cut-short, has-box, has-room, turned}
 use Rattle.walk.proofs.KnownEnds.{Held, held-first, taken, held-next}
 use borrow.Author.Needs.{needs}
@@ -9,11 +9,11 @@ use Rattle.walk.proofs.walk.walk_with.Statement.{statement}
 use Rattle.walk.proofs.walk.walk_with.Tie as tie
 
 abbrev Inv-loop : tie.InvT-loop
-Inv-loop s b tol cap intervals waiting₀ n₀ lefts₀ ends₀ best₀ least₀ boxes₀ most₀ waiting n lefts ends best least boxes most =
+Inv-loop s b tol cap intervals waiting₀ n₀ lefts₀ ends₀ best₀ least₀ boxes₀ most₀ hint₀ waiting n lefts ends best least boxes most hint =
     State s b tol cap intervals waiting n boxes most least best × Held b lefts ends waiting n
 
 abbrev μ-loop : tie.MeasureT-loop
-μ-loop s b tol cap intervals waiting₀ n₀ lefts₀ ends₀ best₀ least₀ boxes₀ most₀ waiting n lefts ends best least boxes most =
+μ-loop s b tol cap intervals waiting₀ n₀ lefts₀ ends₀ best₀ least₀ boxes₀ most₀ hint₀ waiting n lefts ends best least boxes most hint =
     cap - boxes
 
 whole-width-requires : tie.Need-whole-width-requires Inv-loop μ-loop
@@ -133,8 +133,11 @@ loop-again c =
       held-next held some (c .before .before .before .next-ends .ensures) pushed,
     )
 
+uncut-requires : tie.Need-uncut-requires Inv-loop μ-loop
+uncut-requires c κs = search needs
+
 returns-2 : tie.Need-returns-2 Inv-loop μ-loop
-returns-2 c = ended (c .before .loop .inv .0) (c .loop-test .left)
+returns-2 c = c .uncut .ensures ∙ ended (c .before .before .loop .inv .0) (c .before .loop-test .left)
 
 pub walk-with-spec : {M : Type 1} → statement M
 walk-with-spec =
@@ -167,4 +170,5 @@ walk-with-spec =
     larger-requires
     loop-less
     loop-again
+    uncut-requires
     returns-2)
