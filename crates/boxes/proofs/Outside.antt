@@ -1,4 +1,5 @@
--- Where none of a box's five probes lies inside the section there is no penetration. By the law that a point outside is not below 0.
+-- Where none of a box's five probes lies inside the section there is no penetration. By the law that a point outside is not
+-- below 0.
 use mathlib.Core.Bool.{false, true}
 use mathlib.Core.List.{List}
 use mathlib.Core.Path.{_≡_, refl}

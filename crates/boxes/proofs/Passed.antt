@@ -1,5 +1,6 @@
--- An edge that is passed over is not nearer than the best so far: it has no clip, and legs as long as its range lies from the box's
--- sides are hopeless. By the laws of ranges; where the box's sides lie, and the side that is meant, is put in for each of the four.
+-- An edge that is passed over is not nearer than the best so far: it has no clip, and legs as long as its range lies from the
+-- box's sides are hopeless. By the laws of ranges; where the box's sides lie, and the side that is meant, is put in for each
+-- of the four.
 use Prim.Native.Nat.{ℕ}
 use mathlib.Core.Bool.{Bool, true, false}
 use mathlib.Core.Path.{_≡_, subst, sym}
@@ -23,7 +24,8 @@ use Rattle.ranges.proofs.Apart.{has-back, has-end, has-itself, has-start, has-t
 use Rattle.boxes.specs.Boxes.{corners, edgeBox}
 use Rattle.boxes.specs.Steps.{HeldBeside, Ranged}
 
-module _ (x : Aabb) (e : Edge) (F : HeldBeside x e) {sides g : Sides} (i : sides ≡ sidesOf x) (j : g ≡ rangesOf (e .a) (e .b)) where
+module _ (x : Aabb) (e : Edge) (F : HeldBeside x e) {sides g : Sides} (i : sides ≡ sidesOf x)
+    (j : g ≡ rangesOf (e .a) (e .b)) where
   edge-z : Has (g .z) (e .a .z) (e .b .z)
   edge-z = subst (λ (h : Sides). Has (h .z) (e .a .z) (e .b .z)) (sym j) (range-has _ _ (F .a-z))
 

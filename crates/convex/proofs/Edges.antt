@@ -1,5 +1,6 @@
--- Which edge supplies the witness of a convex body: the section's edge of the gap's pair, a convex vertex's, or the one that starts
--- at a section vertex found inside. By the laws of the first smallest, and for the pairs by induction over the convex edges.
+-- Which edge supplies the witness of a convex body: the section's edge of the gap's pair, a convex vertex's, or the one that
+-- starts at a section vertex found inside. By the laws of the first smallest, and for the pairs by induction over the convex
+-- edges.
 use Prim.Native.Nat.{ℕ, suc, _<_}
 use native.Mathlib.Nat.{eq-or-lt-of-le, le-refl}
 use native.Mathlib.Omega.{arith}

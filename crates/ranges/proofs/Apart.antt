@@ -1,5 +1,6 @@
--- How far apart ranges lie is a lower bound of the legs between their points: where such legs are hopeless, an edge and a segment of
--- these ranges are no nearer than the best. By the law of gaps, each range having the computed points of its segment.
+-- How far apart ranges lie is a lower bound of the legs between their points: where such legs are hopeless, an edge and a
+-- segment of these ranges are no nearer than the best. By the law of gaps, each range having the computed points of its
+-- segment.
 use Prim.Native.Nat.{_≤_}
 use native.Mathlib.Nat.{le-refl}
 use mathlib.Core.Bool.{Bool, true, false, not, cond}
@@ -101,8 +102,9 @@ module _ (g h : Range) where
       go false e false k = not-below-itself 𝟘 (number-held binary64 𝟘 zero-number)
 
   module _ (x y : Float) (X : T (fits binary64 x)) (Y : T (fits binary64 y)) where
-    pub gap-reaches : T (fits binary64 (g .lo)) → T (fits binary64 (g .hi)) → T (fits binary64 (h .lo)) → T (fits binary64 (h .hi))
-        → (x ≺ g .lo) ≡ false → (g .hi ≺ x) ≡ false → (y ≺ h .lo) ≡ false → (h .hi ≺ y) ≡ false → Reaches (gapBetween g h) (x ⊖ y)
+    pub gap-reaches : T (fits binary64 (g .lo)) → T (fits binary64 (g .hi)) → T (fits binary64 (h .lo))
+        → T (fits binary64 (h .hi)) → (x ≺ g .lo) ≡ false → (g .hi ≺ x) ≡ false → (y ≺ h .lo) ≡ false
+        → (h .hi ≺ y) ≡ false → Reaches (gapBetween g h) (x ⊖ y)
     unfolding gapBetween
     gap-reaches G₀ G₁ H₀ H₁ a b c d = go (𝟘 ≺ over) refl (𝟘 ≺ under) refl
       where
@@ -114,12 +116,14 @@ module _ (g h : Range) where
             let F = sub-fits binary64 (g .lo) (h .hi) in
             let N = over-zero over F e in
             reaches-size over (x ⊖ y) N (sub-fits binary64 x y)
-            (gap-above binary64 over 𝟘 (T→true _ F) (number-held binary64 𝟘 zero-number) x y (g .lo) (h .hi) X Y G₀ H₁ (itself over N) a d)
+            (gap-above binary64 over 𝟘 (T→true _ F) (number-held binary64 𝟘 zero-number) x y (g .lo) (h .hi) X Y G₀ H₁
+            (itself over N) a d)
         go false e true k =
             let F = sub-fits binary64 (h .lo) (g .hi) in
             let N = over-zero under F k in
             reaches-size under (x ⊖ y) N (sub-fits binary64 x y)
-            (gap-below binary64 under 𝟘 (T→true _ F) (number-held binary64 𝟘 zero-number) x y (h .lo) (g .hi) X Y H₀ G₁ (itself under N) c b)
+            (gap-below binary64 under 𝟘 (T→true _ F) (number-held binary64 𝟘 zero-number) x y (h .lo) (g .hi) X Y H₀ G₁
+            (itself under N) c b)
         go false e false k = reaches-nothing (x ⊖ y) (sub-fits binary64 x y)
 
 -- ---- an edge and a segment
@@ -133,7 +137,11 @@ module _ (least : Float) (e : Edge) (q q′ : Vertex) (gz gr hz hr : Range) (GZ 
       let r = minus (e .a) q in
       let at = places-shares (dot d d) (dot d d′) (dot d r) (dot d′ d′) (dot d′ r) in
       w _ _ (sub-fits binary64 _ _) (sub-fits binary64 _ _)
-      (gap-reaches gz hz _ _ (add-fits binary64 _ _) (add-fits binary64 _ _) (GZ .low-end) (GZ .high-end) (HZ .low-end) (HZ .high-end)
-      (held-low gz _ _ GZ _ (at .s)) (held-high gz _ _ GZ _ (at .s)) (held-low hz _ _ HZ _ (at .t)) (held-high hz _ _ HZ _ (at .t)))
-      (gap-reaches gr hr _ _ (add-fits binary64 _ _) (add-fits binary64 _ _) (GR .low-end) (GR .high-end) (HR .low-end) (HR .high-end)
-      (held-low gr _ _ GR _ (at .s)) (held-high gr _ _ GR _ (at .s)) (held-low hr _ _ HR _ (at .t)) (held-high hr _ _ HR _ (at .t)))
+      (gap-reaches gz hz _ _ (add-fits binary64 _ _) (add-fits binary64 _ _) (GZ .low-end) (GZ .high-end) (HZ .low-end)
+      (HZ .high-end)
+      (held-low gz _ _ GZ _ (at .s)) (held-high gz _ _ GZ _ (at .s)) (held-low hz _ _ HZ _ (at .t)) (held-high hz _ _ HZ _
+      (at .t)))
+      (gap-reaches gr hr _ _ (add-fits binary64 _ _) (add-fits binary64 _ _) (GR .low-end) (GR .high-end) (HR .low-end)
+      (HR .high-end)
+      (held-low gr _ _ GR _ (at .s)) (held-high gr _ _ GR _ (at .s)) (held-low hr _ _ HR _ (at .t)) (held-high hr _ _ HR _
+      (at .t)))

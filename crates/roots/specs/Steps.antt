@@ -60,8 +60,8 @@ pub record NearestOfThree (z k r : ℕ) : Type 0 where
   pub choice : r < 4
   pub nearest : r < 3 → NearestHalfBelow z (k + r)
 
--- Candidates are counted: k stands for k up to 2^53, and from there for every other number. m is twice the middle of k and the next one.
--- The root of z, or of a bit more than z where t is not 0, lies above m, or at it with k odd; and the contrary.
+-- Candidates are counted: k stands for k up to 2^53, and from there for every other number. m is twice the middle of k and the
+-- next one. The root of z, or of a bit more than z where t is not 0, lies above m, or at it with k odd; and the contrary.
 pub record RoundsUpAt (z t k m : ℕ) : Type 0 where
   pub reached : m * m < z + 1
   pub passed : t + k % 2 ≡ 0 → m * m < z

@@ -1,5 +1,5 @@
--- Legs that are long enough have no hypot below a number: one of them reaches it, both reach those of another hypot, or their squares
--- exceed its square. By hypot's growth with the size of each leg; a NaN is below nothing.
+-- Legs that are long enough have no hypot below a number: one of them reaches it, both reach those of another hypot, or their
+-- squares exceed its square. By hypot's growth with the size of each leg; a NaN is below nothing.
 use Prim.Native.Nat.{ℕ, _+_, _-_, _≤_, _<_}
 use native.Mathlib.Nat.{le-of-eq, le-of-lt, le-refl, le-trans}
 use native.Mathlib.Omega.{arith}
@@ -17,12 +17,14 @@ use Rattle.arith.specs.F64.{_⊕_, _⊗_, _≺_, _≼_, 𝟘, ∞}
 use Rattle.arith.specs.Num.{abs}
 use Rattle.arith.proofs.Laws.Along.{add-nan}
 use Rattle.arith.proofs.Laws.Extended.{neg-number}
-use Rattle.arith.proofs.Laws.Hypot.{hypot-comm, hypot-fits, hypot-infinite, hypot-mono, hypot-neg, hypot-number, unsigned, unsigned-key, unsigned-number}
+use Rattle.arith.proofs.Laws.Hypot.{hypot-comm, hypot-fits, hypot-infinite, hypot-mono, hypot-neg}
+use Rattle.arith.proofs.Laws.Hypot.{hypot-number, unsigned, unsigned-key, unsigned-number}
 use Rattle.arith.proofs.Laws.HypotReach.{hypot-not-less, no-number-less}
 use Rattle.arith.proofs.Laws.HypotZero.{hypot-zero}
 use Rattle.arith.proofs.Laws.HypotSquares.{bound, Margin, squares-not-less, total}
 use Rattle.arith.proofs.Laws.Order.{lt-is-not-le}
-use Rattle.arith.proofs.Laws.OrderHeld.{T→true, true→T, held-number, inf-not-less, le-left, le-right, not-less-nan, not-lt-trans-held}
+use Rattle.arith.proofs.Laws.OrderHeld.{T→true, true→T, held-number, inf-not-less}
+use Rattle.arith.proofs.Laws.OrderHeld.{le-left, le-right, not-less-nan, not-lt-trans-held}
 use Rattle.arith.proofs.Laws.OrderHeld.{number-held}
 use Rattle.arith.proofs.Laws.Sizes.{zero-key, zero-number}
 use Rattle.profile.specs.Vertices.{hit, nearer}
@@ -157,7 +159,8 @@ module _ (z r least : Float) (Z : Fits z) (R : Fits r) (B : fits binary64 least 
         (hypot-number binary64 z r nz nr) (true→T B)
         (lt-is-not-le binary64 (hypot binary64 x y) (hypot binary64 z r) (hypot-number binary64 x y X Y)
         (hypot-number binary64 z r nz nr)
-        ∙ ap not {x = le (hypot binary64 z r) (hypot binary64 x y)} (T→true _ (hypot-mono binary64 z x r y nz X nr Y (no-longer z x nz X (h .0) p) (no-longer r y nr Y (h .1) q))))
+        ∙ ap not {x = le (hypot binary64 z r) (hypot binary64 x y)} (T→true _ (hypot-mono binary64 z x r y nz X nr Y
+        (no-longer z x nz X (h .0) p) (no-longer r y nr Y (h .1) q))))
         e)
         x y X Y (h, k)
 
@@ -254,7 +257,8 @@ module _ (best h new : CollisionHit) (i : h ≡ nearer best new) where
           ∙ sym (ap (λ (n : CollisionHit). n .distance ≺ best .distance) j) ∙ e))
 
 -- a hit at the hypot of u and v that is taken: its legs are their sizes
-pub new-legs : (best h : CollisionHit) (w : Witness) (u v : Float) → Fits u → Fits v → h ≡ nearer best (hit (hypot binary64 u v) w)
+pub new-legs : (best h : CollisionHit) (w : Witness) (u v : Float) → Fits u → Fits v → h ≡ nearer best (hit
+    (hypot binary64 u v) w)
     → fits binary64 (best .distance) ≡ true → (h .distance ≺ best .distance) ≡ true → Hopeless (abs u) (abs v) (h .distance)
 new-legs best h w u v U W i B e =
     let n = new-one best h (hit (hypot binary64 u v) w) i B e in

@@ -21,7 +21,8 @@ none-inside-requires c κs = search needs
 returns : tie.Need-returns
 returns c =
     let outside = all-outside (c .before .before .odd-probes .ensures) (c .before .none-inside .ensures (c .if1 .taken)) in
-    no-penetration _ _ _ (rw (c .before .before .before .middle-of .ensures) at (outside .centre)) (outside .c00) (outside .c10) (outside .c11)
+    no-penetration _ _ _ (rw (c .before .before .before .middle-of .ensures) at (outside .centre)) (outside .c00)
+    (outside .c10) (outside .c11)
     (outside .c01)
 
 deeper-probe-requires : tie.Need-deeper-probe-requires
@@ -57,4 +58,16 @@ returns-2 c =
     )
 
 pub box-penetration-spec : {M : Type 1} → statement M
-box-penetration-spec = tie.close (tie.spec middle-of-requires odd-probes-requires none-inside-requires returns deeper-probe-requires deeper-probe-requires-2 deeper-probe-requires-3 deeper-probe-requires-4 deeper-probe-requires-5 returns-2)
+box-penetration-spec =
+    tie.close
+    (tie.spec
+    middle-of-requires
+    odd-probes-requires
+    none-inside-requires
+    returns
+    deeper-probe-requires
+    deeper-probe-requires-2
+    deeper-probe-requires-3
+    deeper-probe-requires-4
+    deeper-probe-requires-5
+    returns-2)

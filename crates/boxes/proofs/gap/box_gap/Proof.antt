@@ -35,21 +35,53 @@ legless-requires : tie.Need-legless-requires
 legless-requires c κs = search needs
 
 gap-from-requires : tie.Need-gap-from-requires
-gap-from-requires c κs = (search needs, search needs, c .before .before .before .before .before .before .before .sides-of .ensures, c .legless .ensures .1)
+gap-from-requires c κs = (
+  search needs,
+  search needs,
+  c .before .before .before .before .before .before .before .sides-of .ensures,
+  c .legless .ensures .1,
+)
 
 nearer-near-requires : tie.Need-nearer-near-requires
 nearer-near-requires c κs = search (c .gap-from .ensures .1, c .before .before .before .first-gap .ensures .1)
 
 gap-from-requires-2 : tie.Need-gap-from-requires-2
-gap-from-requires-2 c κs = (search needs, search needs, c .before .before .before .before .before .before .before .before .before .sides-of .ensures, c .nearer-near .ensures .legs)
+gap-from-requires-2 c κs = (
+  search needs,
+  search needs,
+  c .before .before .before .before .before .before .before .before .before .sides-of .ensures,
+  c .nearer-near .ensures .legs,
+)
 
 returns : tie.Need-returns
 unfolding boxGap
 returns c =
-    met-first _ (λ j. edge-held _ _) _ _ _ (c .before .before .before .before .before .before .before .likely-edge-or .ensures) _ _ _
-    (rw (c .before .before .before .before .before .before .before .before .on .ensures, c .before .before .before .before .before .before .before .before .before .vertex-at .ensures, c .before .before .before .before .before .before .before .before .before .before .infinity .ensures))
-    (c .before .before .before .before .before .before .first-gap .ensures .0) (c .before .before .before .before .before .start-over .ensures)
-    (rw (c .before .before .before .before .legless .ensures .0) at (c .before .before .before .gap-from .ensures .0)) (c .before .before .nearer-near .ensures .hit) (c .before .gap-from2 .ensures .0)
+    met-first _ (λ j. edge-held _ _) _ _ _
+    (c .before .before .before .before .before .before .before .likely-edge-or .ensures) _ _ _
+    (rw (
+      c .before .before .before .before .before .before .before .before .on .ensures,
+      c .before .before .before .before .before .before .before .before .before .vertex-at .ensures,
+      c .before .before .before .before .before .before .before .before .before .before .infinity .ensures,
+    ))
+    (c .before .before .before .before .before .before .first-gap .ensures .0)
+    (c .before .before .before .before .before .start-over .ensures)
+    (rw (c .before .before .before .before .legless .ensures .0) at (c .before .before .before .gap-from .ensures .0))
+    (c .before .before .nearer-near .ensures .hit) (c .before .gap-from2 .ensures .0)
 
 pub box-gap-spec : {M : Type 1} → statement M
-box-gap-spec = tie.close (tie.spec sides-of-requires infinity-requires vertex-at-requires on-requires likely-edge-or-requires add-after first-gap-requires start-over-requires legless-requires gap-from-requires nearer-near-requires gap-from-requires-2 returns)
+box-gap-spec =
+    tie.close
+    (tie.spec
+    sides-of-requires
+    infinity-requires
+    vertex-at-requires
+    on-requires
+    likely-edge-or-requires
+    add-after
+    first-gap-requires
+    start-over-requires
+    legless-requires
+    gap-from-requires
+    nearer-near-requires
+    gap-from-requires-2
+    returns)

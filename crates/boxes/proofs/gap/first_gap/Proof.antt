@@ -15,13 +15,25 @@ legless-requires c κs = search needs
 
 segment-aabb-distance-requires : tie.Need-segment-aabb-distance-requires
 segment-aabb-distance-requires c κs =
-    record { box-sides = c .before .before .before .before .pre .1; edge-ranges = c .before .ranges-of .ensures; legs = c .legless .ensures .1 }
+    record {
+      box-sides = c .before .before .before .before .pre .1;
+      edge-ranges = c .before .ranges-of .ensures;
+      legs = c .legless .ensures .1;
+    }
 
 returns : tie.Need-returns
 returns c = (
-  rw (← c .before .before .before .edge-at .ensures) (rw (c .before .legless .ensures .0) at (c .segment-aabb-distance .ensures .hit)),
+  rw (← c .before .before .before .edge-at .ensures) (rw (c .before .legless .ensures .0) at
+      (c .segment-aabb-distance .ensures .hit)),
   c .segment-aabb-distance .ensures .legs,
 )
 
 pub first-gap-spec : {M : Type 1} → statement M
-first-gap-spec = tie.close (tie.spec edge-at-requires ranges-of-requires legless-requires segment-aabb-distance-requires returns)
+first-gap-spec =
+    tie.close
+    (tie.spec
+    edge-at-requires
+    ranges-of-requires
+    legless-requires
+    segment-aabb-distance-requires
+    returns)

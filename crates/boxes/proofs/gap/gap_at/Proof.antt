@@ -21,7 +21,11 @@ returns c = record {
 
 passed-over-requires : tie.Need-passed-over-requires
 passed-over-requires c κs =
-    record { box-sides = c .before .before .before .before .before .pre .1; edge-ranges = c .ranges-of .ensures; legs = c .before .before .before .before .before .pre .2 }
+    record {
+      box-sides = c .before .before .before .before .before .pre .1;
+      edge-ranges = c .ranges-of .ensures;
+      legs = c .before .before .before .before .before .pre .2;
+    }
 
 returns-2 : tie.Need-returns-2
 returns-2 c = record {
@@ -31,10 +35,24 @@ returns-2 c = record {
 
 segment-aabb-distance-requires : tie.Need-segment-aabb-distance-requires
 segment-aabb-distance-requires c κs =
-    record { box-sides = c .before .before .before .before .before .before .before .pre .1; edge-ranges = c .before .before .ranges-of .ensures; legs = c .before .before .before .before .before .before .before .pre .2 }
+    record {
+      box-sides = c .before .before .before .before .before .before .before .pre .1;
+      edge-ranges = c .before .before .ranges-of .ensures;
+      legs = c .before .before .before .before .before .before .before .pre .2;
+    }
 
 returns-3 : tie.Need-returns-3
 returns-3 c = rw (← c .before .before .before .before .before .before .edge-at .ensures) (c .segment-aabb-distance .ensures)
 
 pub gap-at-spec : {M : Type 1} → statement M
-gap-at-spec = tie.close (tie.spec edge-at-requires passed-along-z-requires returns ranges-of-requires passed-over-requires returns-2 segment-aabb-distance-requires returns-3)
+gap-at-spec =
+    tie.close
+    (tie.spec
+    edge-at-requires
+    passed-along-z-requires
+    returns
+    ranges-of-requires
+    passed-over-requires
+    returns-2
+    segment-aabb-distance-requires
+    returns-3)

@@ -37,4 +37,14 @@ returns : tie.Need-returns Inv-loop μ-loop
 returns c = ((λ a e. upto-end _ _ _ (c .before .loop .inv .1 a e) _ (omega arith)), c .before .loop .inv .2)
 
 pub gap-from-spec : {M : Type 1} → statement M
-gap-from-spec = tie.close (tie.spec Inv-loop μ-loop loop-holds gap-at-requires add-k loop-less loop-again returns)
+gap-from-spec =
+    tie.close
+    (tie.spec
+    Inv-loop
+    μ-loop
+    loop-holds
+    gap-at-requires
+    add-k
+    loop-less
+    loop-again
+    returns)

@@ -21,7 +21,8 @@ returns c =
     let start = c .before .before .before .before in
     record {
       hit = rw (side-passed _ _ _ _ _ _ _ (start .pre .0)
-          (rw (c .before .before .before .gap-between .ensures, c .before .before .gap-between2 .ensures) at (c .before .hopeless .ensures (c .if1 .taken))));
+          (rw (c .before .before .before .gap-between .ensures, c .before .before .gap-between2 .ensures) at
+          (c .before .hopeless .ensures (c .if1 .taken))));
       legs = start .pre .1;
     }
 
@@ -32,4 +33,12 @@ returns-2 : tie.Need-returns-2
 returns-2 c = c .seg-seg-point-on-first .ensures
 
 pub nearer-side-spec : {M : Type 1} → statement M
-nearer-side-spec = tie.close (tie.spec gap-between-requires gap-between-requires-2 hopeless-requires returns seg-seg-point-on-first-requires returns-2)
+nearer-side-spec =
+    tie.close
+    (tie.spec
+    gap-between-requires
+    gap-between-requires-2
+    hopeless-requires
+    returns
+    seg-seg-point-on-first-requires
+    returns-2)

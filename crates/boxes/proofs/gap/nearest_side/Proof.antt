@@ -42,4 +42,11 @@ returns c = (
 )
 
 pub nearest-side-spec : {M : Type 1} → statement M
-nearest-side-spec = tie.close (tie.spec nearer-side-requires nearer-side-requires-2 nearer-side-requires-3 nearer-side-requires-4 returns)
+nearest-side-spec =
+    tie.close
+    (tie.spec
+    nearer-side-requires
+    nearer-side-requires-2
+    nearer-side-requires-3
+    nearer-side-requires-4
+    returns)

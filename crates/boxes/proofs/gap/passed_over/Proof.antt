@@ -17,8 +17,11 @@ misses-box-requires : tie.Need-misses-box-requires
 misses-box-requires c κs = search needs
 
 hopeless-requires : tie.Need-hopeless-requires
-hopeless-requires c κs =
-    (rw (c .before .gap-between .ensures) (gap-plus _ _), rw (c .gap-between2 .ensures) (gap-plus _ _), c .before .before .before .before .pre .legs)
+hopeless-requires c κs = (
+  rw (c .before .gap-between .ensures) (gap-plus _ _),
+  rw (c .gap-between2 .ensures) (gap-plus _ _),
+  c .before .before .before .before .pre .legs,
+)
 
 returns : tie.Need-returns
 returns c =
@@ -33,11 +36,20 @@ returns c =
       r1 = true→T (start .good .1 .0 .1 .1 .1 .1 .1 .0 .1);
     })
     (start .pre .box-sides) (start .pre .edge-ranges) _
-    (rw (c .before .before .before .before .gap-between .ensures, c .before .before .before .gap-between2 .ensures) at (c .before .before .hopeless .ensures (c .before .if1 .taken)))
+    (rw (c .before .before .before .before .gap-between .ensures, c .before .before .before .gap-between2 .ensures) at
+    (c .before .before .hopeless .ensures (c .before .if1 .taken)))
     (c .misses-box .ensures t)
 
 returns-2 : tie.Need-returns-2
 returns-2 c = λ t. absurd (true→T t)
 
 pub passed-over-spec : {M : Type 1} → statement M
-passed-over-spec = tie.close (tie.spec gap-between-requires gap-between-requires-2 hopeless-requires misses-box-requires returns returns-2)
+passed-over-spec =
+    tie.close
+    (tie.spec
+    gap-between-requires
+    gap-between-requires-2
+    hopeless-requires
+    misses-box-requires
+    returns
+    returns-2)

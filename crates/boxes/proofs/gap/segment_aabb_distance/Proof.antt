@@ -29,7 +29,8 @@ returns : tie.Need-returns
 unfolding edgeBox
 returns c = record {
   hit = rw (← c .before .before .before .before .before .clip-segment .ensures, c .before .before .before .before .if1 .taken)
-      (rw (c .before .legless .ensures .0, c .before .before .on .ensures, c .before .before .before .lerp .ensures) at (c .nearer-near .ensures .hit));
+      (rw (c .before .legless .ensures .0, c .before .before .on .ensures, c .before .before .before .lerp .ensures) at
+      (c .nearer-near .ensures .hit));
   legs = c .nearer-near .ensures .legs;
 }
 
@@ -57,4 +58,14 @@ returns-2 c = record {
 }
 
 pub segment-aabb-distance-spec : {M : Type 1} → statement M
-segment-aabb-distance-spec = tie.close (tie.spec clip-segment-requires lerp-requires on-requires legless-requires nearer-near-requires returns nearest-side-requires returns-2)
+segment-aabb-distance-spec =
+    tie.close
+    (tie.spec
+    clip-segment-requires
+    lerp-requires
+    on-requires
+    legless-requires
+    nearer-near-requires
+    returns
+    nearest-side-requires
+    returns-2)

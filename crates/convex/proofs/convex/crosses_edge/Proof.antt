@@ -18,4 +18,10 @@ returns c =
     rw (← c .before .before .vertex-at .ensures, ← c .before .end-at .ensures, ← c .proper-cross .ensures)
 
 pub crosses-edge-spec : {M : Type 1} → statement M
-crosses-edge-spec = tie.close (tie.spec vertex-at-requires end-at-requires proper-cross-requires returns)
+crosses-edge-spec =
+    tie.close
+    (tie.spec
+    vertex-at-requires
+    end-at-requires
+    proper-cross-requires
+    returns)

@@ -34,4 +34,11 @@ returns-3 : tie.Need-returns-3
 returns-3 c = λ t. absurd (true→T t)
 
 pub parted-spec : {M : Type 1} → statement M
-parted-spec = tie.close (tie.spec orient-at-requires orient-at-requires-2 returns returns-2 returns-3)
+parted-spec =
+    tie.close
+    (tie.spec
+    orient-at-requires
+    orient-at-requires-2
+    returns
+    returns-2
+    returns-3)

@@ -40,4 +40,14 @@ returns : tie.Need-returns Inv-loop μ-loop
 returns c = ((λ a e. upto-end _ _ _ (c .before .loop .inv .1 a e) _ (omega arith)), c .before .loop .inv .2)
 
 pub surface-from-spec : {M : Type 1} → statement M
-surface-from-spec = tie.close (tie.spec Inv-loop μ-loop loop-holds surface-step-requires add-k loop-less loop-again returns)
+surface-from-spec =
+    tie.close
+    (tie.spec
+    Inv-loop
+    μ-loop
+    loop-holds
+    surface-step-requires
+    add-k
+    loop-less
+    loop-again
+    returns)

@@ -33,4 +33,13 @@ returns-6 c = λ t. record {
 }
 
 pub none-inside-spec : {M : Type 1} → statement M
-none-inside-spec = tie.close (tie.spec returns returns-2 returns-3 returns-4 returns-5 off-axis-requires returns-6)
+none-inside-spec =
+    tie.close
+    (tie.spec
+    returns
+    returns-2
+    returns-3
+    returns-4
+    returns-5
+    off-axis-requires
+    returns-6)

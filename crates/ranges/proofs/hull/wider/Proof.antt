@@ -30,4 +30,11 @@ returns c =
     )
 
 pub wider-spec : {M : Type 1} → statement M
-wider-spec = tie.close (tie.spec range-of-requires join-requires range-of-requires-2 join-requires-2 returns)
+wider-spec =
+    tie.close
+    (tie.spec
+    range-of-requires
+    join-requires
+    range-of-requires-2
+    join-requires-2
+    returns)

@@ -28,16 +28,34 @@ returns c =
     }
 
 too-far-requires : tie.Need-too-far-requires
-too-far-requires c κs = (rw (c .before .before .before .gap-between .ensures) (gap-plus _ _), rw (c .gap-between2 .ensures) (gap-plus _ _))
+too-far-requires c κs = (
+  rw (c .before .before .before .gap-between .ensures) (gap-plus _ _),
+  rw (c .gap-between2 .ensures)
+      (gap-plus _ _),
+)
 
 returns-2 : tie.Need-returns-2
 returns-2 c =
     let start = c .before .before .before .before .before .before in
     λ t. record {
       held = record { z = start .good .0 .1 .1 .0 .1; r = start .good .0 .1 .1 .1 .0 .1 };
-      far = rw (c .before .before .before .before .gap-between .ensures, c .before .before .before .before .before .range-of .ensures, c .before .gap-between2 .ensures, c .before .before .range-of2 .ensures)
+      far = rw (
+        c .before .before .before .before .gap-between .ensures,
+        c .before .before .before .before .before .range-of .ensures,
+        c .before .gap-between2 .ensures,
+        c .before .before .range-of2 .ensures,
+      )
           at (c .too-far .ensures t);
     }
 
 pub far-off-spec : {M : Type 1} → statement M
-far-off-spec = tie.close (tie.spec range-of-requires gap-between-requires returns range-of-requires-2 gap-between-requires-2 too-far-requires returns-2)
+far-off-spec =
+    tie.close
+    (tie.spec
+    range-of-requires
+    gap-between-requires
+    returns
+    range-of-requires-2
+    gap-between-requires-2
+    too-far-requires
+    returns-2)

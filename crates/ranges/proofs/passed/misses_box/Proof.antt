@@ -18,4 +18,10 @@ returns-2 : tie.Need-returns-2
 returns-2 c = λ t. missed-r _ _ _ (sym (c .misses-along2 .ensures) ∙ t)
 
 pub misses-box-spec : {M : Type 1} → statement M
-misses-box-spec = tie.close (tie.spec misses-along-requires returns misses-along-requires-2 returns-2)
+misses-box-spec =
+    tie.close
+    (tie.spec
+    misses-along-requires
+    returns
+    misses-along-requires-2
+    returns-2)

@@ -24,4 +24,11 @@ returns-2 : tie.Need-returns-2
 returns-2 c = λ t. absurd (true→T t)
 
 pub passed-along-spec : {M : Type 1} → statement M
-passed-along-spec = tie.close (tie.spec range-of-requires gap-between-requires misses-along-requires returns returns-2)
+passed-along-spec =
+    tie.close
+    (tie.spec
+    range-of-requires
+    gap-between-requires
+    misses-along-requires
+    returns
+    returns-2)

@@ -35,4 +35,12 @@ returns-2 : tie.Need-returns-2
 returns-2 c = search needs
 
 pub nearest-half-spec : {M : Type 1} → statement M
-nearest-half-spec = tie.close (tie.spec sum-parts-requires nearest-of-three-requires add-result sub-result returns returns-2)
+nearest-half-spec =
+    tie.close
+    (tie.spec
+    sum-parts-requires
+    nearest-of-three-requires
+    add-result
+    sub-result
+    returns
+    returns-2)

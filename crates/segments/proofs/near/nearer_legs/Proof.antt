@@ -24,8 +24,10 @@ returns c =
     let v = sub-fits binary64 (start .args .p .r) (start .args .q .r) in
     record {
       hit = rw (start .pre _ _ u v
-          (reached _ _ (true→T (start .good .0 .1 .1 .1 .0 .1)) u (rw (c .before .before .before .before .before .before .before .abs .ensures) at (c .before .before .if1 .taken)))
-          (reached _ _ (true→T (start .good .0 .1 .1 .1 .1 .0 .1)) v (rw (c .before .before .before .before .abs2 .ensures) at (c .if2 .taken))));
+          (reached _ _ (true→T (start .good .0 .1 .1 .1 .0 .1)) u (rw
+          (c .before .before .before .before .before .before .before .abs .ensures) at (c .before .before .if1 .taken)))
+          (reached _ _ (true→T (start .good .0 .1 .1 .1 .1 .0 .1)) v (rw
+          (c .before .before .before .before .abs2 .ensures) at (c .if2 .taken))));
       legs = start .pre;
     }
 
@@ -34,7 +36,10 @@ returns-2 c =
     let start = c .before .before .before .before .before .before .before .before .before .before .before .before .before in
     record {
       hit = c .before .before .before .nearer-between .ensures;
-      legs = rw (c .before .before .before .before .before .before .before .before .before .abs .ensures, c .before .before .before .before .before .before .abs2 .ensures)
+      legs = rw (
+        c .before .before .before .before .before .before .before .before .before .abs .ensures,
+        c .before .before .before .before .before .before .abs2 .ensures,
+      )
           (new-legs _ _ _ _ _ (sub-fits binary64 (start .args .p .z) (start .args .q .z))
           (sub-fits binary64 (start .args .p .r) (start .args .q .r)) (c .before .before .before .nearer-between .ensures)
           (start .good .0 .1 .1 .0 .1 .1 .0 .1) (c .if3 .taken));
@@ -47,4 +52,12 @@ returns-3 c = record {
 }
 
 pub nearer-legs-spec : {M : Type 1} → statement M
-nearer-legs-spec = tie.close (tie.spec abs-requires abs-requires-2 returns nearer-between-requires returns-2 returns-3)
+nearer-legs-spec =
+    tie.close
+    (tie.spec
+    abs-requires
+    abs-requires-2
+    returns
+    nearer-between-requires
+    returns-2
+    returns-3)

@@ -29,7 +29,9 @@ advance-requires-2 : tie.Need-advance-requires-2
 advance-requires-2 c κs = search needs
 
 nearer-legs-requires : tie.Need-nearer-legs-requires
-nearer-legs-requires c κs = c .before .before .before .before .before .before .before .before .before .before .before .before .before .before .before .before .before .before .before .before .before .before .pre
+nearer-legs-requires c κs =
+    let products = c .before .before .before .before .before .before .before .before .before .before .before in
+    products .before .before .before .before .before .before .before .before .before .before .before .pre
 
 returns : tie.Need-returns
 unfolding segments
@@ -45,4 +47,16 @@ returns c =
     (rw (c .before .advance2 .ensures, c .before .before .advance .ensures) at (c .nearer-legs .ensures))
 
 pub seg-seg-point-on-first-spec : {M : Type 1} → statement M
-seg-seg-point-on-first-spec = tie.close (tie.spec dot2-requires dot2-requires-2 dot2-requires-3 dot2-requires-4 dot2-requires-5 closest-places-requires advance-requires advance-requires-2 nearer-legs-requires returns)
+seg-seg-point-on-first-spec =
+    tie.close
+    (tie.spec
+    dot2-requires
+    dot2-requires-2
+    dot2-requires-3
+    dot2-requires-4
+    dot2-requires-5
+    closest-places-requires
+    advance-requires
+    advance-requires-2
+    nearer-legs-requires
+    returns)

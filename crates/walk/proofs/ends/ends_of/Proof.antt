@@ -17,4 +17,10 @@ returns c =
     rw (c .before .before .cross-at .ensures, c .before .cross-at2 .ensures, c .cross-at3 .ensures)
 
 pub ends-of-spec : {M : Type 1} → statement M
-ends-of-spec = tie.close (tie.spec cross-at-requires cross-at-requires-2 cross-at-requires-3 returns)
+ends-of-spec =
+    tie.close
+    (tie.spec
+    cross-at-requires
+    cross-at-requires-2
+    cross-at-requires-3
+    returns)

@@ -9,11 +9,13 @@ use Rattle.walk.proofs.walk.walk_with.Statement.{statement}
 use Rattle.walk.proofs.walk.walk_with.Tie as tie
 
 abbrev Inv-loop : tie.InvT-loop
-Inv-loop s b tol cap intervals waiting₀ n₀ lefts₀ ends₀ best₀ least₀ boxes₀ most₀ hint₀ waiting n lefts ends best least boxes most hint =
+Inv-loop s b tol cap intervals waiting₀ n₀ lefts₀ ends₀ best₀ least₀ boxes₀ most₀ hint₀ waiting n lefts ends best
+    least boxes most hint =
     State s b tol cap intervals waiting n boxes most least best × Held b lefts ends waiting n
 
 abbrev μ-loop : tie.MeasureT-loop
-μ-loop s b tol cap intervals waiting₀ n₀ lefts₀ ends₀ best₀ least₀ boxes₀ most₀ hint₀ waiting n lefts ends best least boxes most hint =
+μ-loop s b tol cap intervals waiting₀ n₀ lefts₀ ends₀ best₀ least₀ boxes₀ most₀ hint₀ waiting n lefts ends best
+    least boxes most hint =
     cap - boxes
 
 whole-width-requires : tie.Need-whole-width-requires Inv-loop μ-loop
