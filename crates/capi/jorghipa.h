@@ -39,13 +39,13 @@
  * Floats     rounded to nearest, subnormals kept, all traps masked, as when a program starts. With another rounding the answers
  *            differ. Most calls raise INEXACT, a cylinder whose ends a and b are the same also DIVBYZERO and INVALID
  * Machine    x86-64, ELF, the System V calling convention
- * Stack      in bytes, whatever is asked: a root or a builder 200, a point or a sphere 1,200, a box or a convex body 2,000, a
- *            cylinder, its verdict, a pair or a move 4,900, an assembly 12,200, reading a store 6,900, editing one 29,600.
+ * Stack      in bytes, whatever is asked: a root or a builder 200, a point or a sphere 1,400, a box or a convex body 2,400, a
+ *            cylinder, its verdict, a pair or a move 6,700, an assembly 14,100, reading a store 6,900, editing one 29,600.
  *            Nothing calls itself. Where a program binds lazily, its first memset or memcpy takes some 3,000 besides
  * Time       grows as boxes times edges. A box, or a cylinder along the spindle, is one box; a cylinder across is up to `most`,
  *            which is 8,192 where a call takes no settings; a convex body is one for each of its edges; a pair measures twice, an
  *            assembly each body, a move steps + 1 times.
- *            A walk of 8,192 boxes beside 256 edges took 25 ms on a 2-core virtual machine, a box beside them 0.004 ms, a point
+ *            A walk of 8,192 boxes beside 256 edges took 13 ms on a 2-core virtual machine, a box beside them 0.003 ms, a point
  *            0.002 ms. Most edges are passed over there. Measured one and all, they took 160 to 310 ms, 0.1 us a box and edge:
  *            reckon with that for a section of which few can be. bindings/c/costs.c measures both on yours
  *

@@ -26,7 +26,7 @@
  * Pointers   valid for their count, aligned, and not null even at count 0
  * Floats     rounded to nearest, subnormals kept, all traps masked; a bar whose ends are the same raises DIVBYZERO and INVALID
  * Machine    x86-64, ELF, the System V calling convention
- * Stack      in bytes, whatever is asked: a point or a sphere 5,200, a box 6,000, a bar 7,500; the vertices are copied there
+ * Stack      in bytes, whatever is asked: a point or a sphere 5,400, a box 6,700, a bar 9,600; the vertices are copied there
  * Time       that of the query of jorghipa.h
  */
 #ifndef JORGHIPA_RECORDS_H
