@@ -26,7 +26,7 @@ use Rattle.section.specs.Answers.{pointAnswer, sphereAnswer, boxAnswer}
 use Rattle.builders.specs.Kept.{sectionAnswer, polygonAnswer}
 use Rattle.bands.specs.Axis.{axisDir, axis}
 use Rattle.bands.specs.Band.{bar, axialBox, bandOf, halfWidth, spanAt}
-use Rattle.walk.specs.Pieces.{widest, narrowest, pieceBox, variation}
+use Rattle.pieces.specs.Pieces.{widest, narrowest, pieceBox, variation}
 use Rattle.walk.specs.Walk.{sampleVertex, sampled, walk, walkAll, bandDistance}
 use Rattle.settings.specs.Settings.{finest, settings}
 use Rattle.settings.specs.declared.shapes.Settings.{Settings}

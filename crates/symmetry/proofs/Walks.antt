@@ -27,11 +27,11 @@ use Rattle.boxes.specs.Boxes.{boxDistance}
 use Rattle.points.specs.Points.{pointDistance}
 use Rattle.settings.specs.declared.shapes.Settings.{Settings}
 use Rattle.bands.specs.Band.{halfWidth, spanAt}
-use Rattle.walk.specs.Pieces.{narrowest, pieceBox, variation, wholeWidth, widest}
+use Rattle.pieces.specs.Pieces.{narrowest, pieceBox, variation, wholeWidth, widest}
+use Rattle.pieces.specs.declared.shapes.Piece.{Piece}
 use Rattle.walk.specs.Walk.{bandDistance, measured, oneBox, sampled, sampleVertex, sampleZ, start, thinBox, waiting}
 use Rattle.walk.specs.Walk.{Walk, walk, walkAll, walked}
 use Rattle.walk.specs.declared.shapes.CountedHit.{CountedHit}
-use Rattle.walk.specs.declared.shapes.Piece.{Piece}
 use Rattle.bands.specs.declared.shapes.RadialBand.{RadialBand}
 use Rattle.bands.specs.declared.shapes.Span.{Span}
 

@@ -3,6 +3,4 @@ pub mod Cover
 pub mod Demand
 pub mod Exact
 pub mod Sixteenths
-pub mod Stored
-pub mod KnownEnds
 pub mod Loop

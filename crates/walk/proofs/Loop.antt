@@ -13,15 +13,16 @@ use Rattle.arith.specs.F64.{∞}
 use Rattle.arith.specs.Num.{min}
 use Rattle.profile.specs.Vertices.{hit}
 use Rattle.profile.specs.declared.shapes.CollisionHit.{CollisionHit}
-use Rattle.walk.specs.Pieces.{piece, wholeWidth}
-use Rattle.walk.specs.Walk.{Walk, better, halved, halves, sampled, waiting, measured}
+use Rattle.pieces.specs.Pieces.{piece, wholeWidth, halves}
+use Rattle.pieces.specs.Steps.{pieces, Waits, Pushed, measure}
+use Rattle.pieces.specs.declared.shapes.Piece.{Piece}
+use Rattle.pieces.specs.declared.shapes.Measured.{Measured}
+use Rattle.pieces.proofs.Stored.{pieces-length}
+use Rattle.walk.specs.Walk.{Walk, better, halved, sampled, waiting, measured}
 use Rattle.walk.specs.Walk.{walk, walkAll, walked}
-use Rattle.walk.specs.Steps.{pieces, Room, Waits, Pushed, measure}
+use Rattle.walk.specs.Steps.{Room}
 use Rattle.bands.specs.declared.shapes.RadialBand.{RadialBand}
-use Rattle.walk.specs.declared.shapes.Piece.{Piece}
-use Rattle.walk.specs.declared.shapes.Measured.{Measured}
 use Rattle.walk.specs.declared.shapes.CountedHit.{CountedHit}
-use Rattle.walk.proofs.Stored.{pieces-length}
 
 -- the piece at place k
 abbrev pieceAt : List Float → ℕ → Piece

@@ -9,10 +9,10 @@ use lib.Dec.{T}
 use lib.Ieee.{Float, binary64, fits}
 use Rattle.arith.specs.F64.{_⊕_, _⊖_, _≺_, _≼_}
 use Rattle.bands.specs.Band.{halfWidth, spanAt}
-use Rattle.walk.specs.Pieces.{wholeWidth, pieceBox, variation}
-use Rattle.walk.specs.Walk.{Walk, boxHit, sampled, left, reported}
+use Rattle.pieces.specs.Pieces.{wholeWidth, pieceBox, variation, boxHit}
+use Rattle.pieces.specs.declared.shapes.Piece.{Piece}
+use Rattle.walk.specs.Walk.{Walk, sampled, left, reported}
 use Rattle.bands.specs.declared.shapes.RadialBand.{RadialBand}
-use Rattle.walk.specs.declared.shapes.Piece.{Piece}
 
 abbrev pub waits : List Piece → Bool
 waits [] = false

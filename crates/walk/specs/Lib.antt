@@ -1,5 +1,4 @@
--- 01's walk: its pieces, its steps. Cover is what is promised of every walk.
-pub mod Pieces
+-- 01's walk: its samples, its steps. Cover is what is promised of every walk.
 pub mod Walk
 pub mod Cover
 pub mod Steps

@@ -15,10 +15,10 @@ use Rattle.profile.specs.declared.shapes.Vertex.{Vertex}
 use Rattle.profile.specs.declared.shapes.CollisionHit.{CollisionHit}
 use Rattle.profile.specs.declared.shapes.Aabb.{Aabb}
 use Rattle.bands.specs.Band.{mean, halfWidth, spanAt}
-use Rattle.walk.specs.Pieces.{piece, wholeWidth, pieceBox, variation}
 use Rattle.bands.specs.declared.shapes.RadialBand.{RadialBand}
 use Rattle.settings.specs.declared.shapes.Settings.{Settings}
-use Rattle.walk.specs.declared.shapes.Piece.{Piece}
+use Rattle.pieces.specs.Pieces.{wholeWidth, boxHit, variation, halves}
+use Rattle.pieces.specs.declared.shapes.Piece.{Piece}
 use Rattle.walk.specs.declared.shapes.CountedHit.{CountedHit}
 
 -- ---- the starting distance
@@ -65,10 +65,6 @@ better m v best = cond (dropped m best) best (nearer best (hit (m .distance ⊕ 
 abbrev pub halved : Float → CollisionHit → Float → CollisionHit → Piece → Bool
 halved tol m v best p = not (dropped m best) && ((tol ≺ v) && (tol ≺ p .z1 ⊖ p .z0))
 
--- the left half waits first, so that the right one is taken next
-abbrev pub halves : Piece → List Piece → List Piece
-halves p ps = let m = mean (p .z0) (p .z1) in piece m (p .z1) ∷ piece (p .z0) m ∷ ps
-
 abbrev pub marked : Walk → Walk
 marked w = record { best = w .best; least = w .least; most = w .most; seen = w .seen; cut = true }
 
@@ -82,23 +78,19 @@ module _ (s : List Float) (b : RadialBand) where
       upto (λ i best. nearestOf (λ j. pointDistance s (sampleVertex b (sampleZ b n i) j)) best 3)
       (hit ∞ (on 0 (vertex (b .zc) 𝟘))) (suc n)
 
-  -- the box of a piece is measured
-  abbrev pub boxHit : Piece → CollisionHit
-  boxHit p = boxDistance s (pieceBox b p)
-
   module _ (tol : Float) where
     -- what waits when piece p, taken from before ps, has gone through
     abbrev pub waiting : Piece → List Piece → CollisionHit → List Piece
-    waiting p ps best = cond (halved tol (boxHit p) (variation b p) best p) (halves p ps) ps
+    waiting p ps best = cond (halved tol (boxHit s b p) (variation b p) best p) (halves p ps) ps
 
     abbrev pub bested : Piece → CollisionHit → CollisionHit
-    bested p best = better (boxHit p) (variation b p) best
+    bested p best = better (boxHit s b p) (variation b p) best
 
     abbrev pub measured : Piece → List Piece → Walk → Walk
     measured p ps w =
         record {
           best = bested p (w .best);
-          least = min (w .least) (boxHit p .distance);
+          least = min (w .least) (boxHit s b p .distance);
           most = maxℕ (w .most) (length (waiting p ps (w .best)));
           seen = p ∷ w .seen;
           cut = false;

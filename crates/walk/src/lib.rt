@@ -1,9 +1,6 @@
 // The walk over the pieces of a cylinder across the spindle.
-mod ends;
-mod pieces;
 mod samples;
 mod shapes;
-mod waiting;
 mod walk;
 
 pub use shapes::CountedHit;

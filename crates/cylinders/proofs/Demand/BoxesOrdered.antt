@@ -9,9 +9,9 @@ use Rattle.bands.specs.Band.{axialBox, bandOf, measuredAs}
 use Rattle.bands.specs.declared.shapes.Cylinder.{Cylinder}
 use Rattle.bands.proofs.AxialBox.{Ordered, axialBox-ordered}
 use Rattle.bands.proofs.Limit.{bandOf-in-limit, measuredAs-in-limit}
-use Rattle.walk.specs.Pieces.{pieceBox}
+use Rattle.pieces.specs.Pieces.{pieceBox}
+use Rattle.pieces.specs.declared.shapes.Piece.{Piece}
 use Rattle.walk.specs.Walk.{thinBox, walkWith}
-use Rattle.walk.specs.declared.shapes.Piece.{Piece}
 use Rattle.walk.proofs.Demand.Ordered.{walkAll-ordered}
 use Rattle.walk.proofs.Demand.Pieces.{thinBox-ordered}
 use Rattle.profile.specs.Refusals.{refusal}

@@ -17,8 +17,8 @@ use Rattle.bands.specs.declared.shapes.RadialBand.{RadialBand}
 use Rattle.bands.proofs.HalfWidth.{LiesBetween, halfWidth-finite, halfWidth-not-negative, nearer-is-wider}
 use Rattle.bands.proofs.Limit.{InLimit}
 use Rattle.bands.proofs.Spans.{SpanFinite, span-nested, spanAt-finite}
-use Rattle.walk.specs.Pieces.{widest, narrowest, pieceBox}
-use Rattle.walk.specs.declared.shapes.Piece.{Piece}
+use Rattle.pieces.specs.Pieces.{widest, narrowest, pieceBox}
+use Rattle.pieces.specs.declared.shapes.Piece.{Piece}
 use Rattle.walk.proofs.Demand.Pieces.{Sound, clamped, greatest-radius, least-radius, narrowest-finite, widest-finite}
 
 module _ {b : RadialBand} (B : InLimit b) {p : Piece} (P : Sound p) {z : Float} (Z : Finite 21 z)

@@ -8,10 +8,10 @@ use mathlib.Core.List.{List, [], _∷_}
 use native.Mathlib.Omega.{arith}
 use lib.ListN.{length}
 use lib.Ieee.{Float}
+use Rattle.pieces.specs.declared.shapes.Piece.{Piece}
 use Rattle.walk.specs.Walk.{Walk, waiting, measured, walk, left}
 use Rattle.walk.specs.Cover.{waits}
 use Rattle.bands.specs.declared.shapes.RadialBand.{RadialBand}
-use Rattle.walk.specs.declared.shapes.Piece.{Piece}
 use Rattle.arith.proofs.Laws.Sizes.{Number}
 use Rattle.bands.proofs.Limit.{InLimit}
 use Rattle.walk.proofs.Cover.Depth.{Tolerance}

@@ -13,11 +13,11 @@ use lib.Ieee.{Float, binary64, fits}
 use Rattle.arith.specs.F64.{_⊕_, _⊖_, _≺_, _≼_}
 use Rattle.roots.proofs.Rounding.KeyOrder.{le→key, key→le, key→lt}
 use Rattle.arith.proofs.Laws.Bounded.{between-bounded}
-use Rattle.walk.specs.Pieces.{wholeWidth, pieceBox, variation}
-use Rattle.walk.specs.Walk.{Walk, boxHit, start, sampled, waiting, measured, walk, walkAll}
+use Rattle.pieces.specs.Pieces.{wholeWidth, pieceBox, variation, boxHit}
+use Rattle.pieces.specs.declared.shapes.Piece.{Piece}
+use Rattle.walk.specs.Walk.{Walk, start, sampled, waiting, measured, walk, walkAll}
 use Rattle.walk.specs.Cover.{Covered, Covers}
 use Rattle.bands.specs.declared.shapes.RadialBand.{RadialBand}
-use Rattle.walk.specs.declared.shapes.Piece.{Piece}
 use Rattle.arith.proofs.Laws.Extended.{sum-number}
 use Rattle.arith.proofs.Laws.OrderHeld.{T→true, held-number, le-right}
 use Rattle.arith.proofs.Laws.SizedOrder.{key-le}

@@ -15,11 +15,11 @@ use Rattle.arith.proofs.Laws.Bounded.{bounded-within}
 use Rattle.arith.proofs.Laws.Middle.{half, half-is}
 use Rattle.arith.proofs.Laws.Depth.{Level, level-start, level-wide, level-down, Scale, split}
 use Rattle.bands.specs.Band.{mean}
-use Rattle.walk.specs.Pieces.{piece, wholeWidth}
 use Rattle.bands.specs.declared.shapes.RadialBand.{RadialBand}
-use Rattle.walk.specs.declared.shapes.Piece.{Piece}
 use Rattle.arith.proofs.Laws.Sizes.{Finite, K, M, Number, held-finite}
 use Rattle.bands.proofs.Limit.{InLimit}
+use Rattle.pieces.specs.Pieces.{piece, wholeWidth}
+use Rattle.pieces.specs.declared.shapes.Piece.{Piece}
 use Rattle.walk.proofs.Demand.Pieces.{Sound, halve-sound, wholeWidth-sound}
 
 -- the width at the start, 2 ^ 21 with room for the rounding of its ends, and the rounding of a middle: both counted in

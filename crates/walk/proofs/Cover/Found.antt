@@ -11,10 +11,10 @@ use lib.Ieee.{Float}
 use Rattle.arith.specs.F64.{_⊖_}
 use Rattle.roots.proofs.Numbers.{decide}
 use Rattle.bands.specs.Band.{mean}
-use Rattle.walk.specs.Pieces.{variation}
-use Rattle.walk.specs.Walk.{Walk, halved, marked, boxHit, waiting, measured, walk}
+use Rattle.pieces.specs.Pieces.{variation, boxHit}
+use Rattle.pieces.specs.declared.shapes.Piece.{Piece}
+use Rattle.walk.specs.Walk.{Walk, halved, marked, waiting, measured, walk}
 use Rattle.bands.specs.declared.shapes.RadialBand.{RadialBand}
-use Rattle.walk.specs.declared.shapes.Piece.{Piece}
 use Rattle.arith.proofs.Laws.Sizes.{K, Number}
 use Rattle.bands.proofs.Limit.{InLimit}
 use Rattle.walk.proofs.Demand.Pieces.{Sound}

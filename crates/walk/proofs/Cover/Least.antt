@@ -13,11 +13,11 @@ use Rattle.arith.specs.Num.{min}
 use Rattle.roots.proofs.Rounding.KeyOrder.{key→le}
 use Rattle.arith.proofs.Laws.Order.{min-infinity, min-key}
 use Rattle.profile.specs.declared.shapes.CollisionHit.{CollisionHit}
-use Rattle.walk.specs.Pieces.{pieceBox}
-use Rattle.walk.specs.Walk.{Walk, start, boxHit, waiting, measured, walk, reported}
+use Rattle.pieces.specs.Pieces.{pieceBox, boxHit}
+use Rattle.pieces.specs.declared.shapes.Piece.{Piece}
+use Rattle.walk.specs.Walk.{Walk, start, waiting, measured, walk, reported}
 use Rattle.walk.specs.Cover.{Least}
 use Rattle.bands.specs.declared.shapes.RadialBand.{RadialBand}
-use Rattle.walk.specs.declared.shapes.Piece.{Piece}
 use Rattle.arith.proofs.Laws.Sizes.{K, Number, min-keeps}
 use Rattle.profile.proofs.Numbers.{infinite}
 use Rattle.profile.proofs.Steps.{pick}

@@ -13,10 +13,10 @@ use Rattle.arith.specs.F64.{_⊕_, _⊖_, _≺_, _≼_, e-12}
 use Rattle.roots.proofs.Rounding.KeyOrder.{key→le, lt→key, nlt→key}
 use Rattle.profile.specs.Vertices.{hit, nearer}
 use Rattle.profile.specs.declared.shapes.CollisionHit.{CollisionHit}
-use Rattle.walk.specs.Pieces.{pieceBox, variation}
-use Rattle.walk.specs.Walk.{dropped, better, halved, boxHit, waiting}
+use Rattle.pieces.specs.Pieces.{pieceBox, variation, boxHit}
+use Rattle.pieces.specs.declared.shapes.Piece.{Piece}
+use Rattle.walk.specs.Walk.{dropped, better, halved, waiting}
 use Rattle.bands.specs.declared.shapes.RadialBand.{RadialBand}
-use Rattle.walk.specs.declared.shapes.Piece.{Piece}
 use Rattle.arith.proofs.Laws.Extended.{sum-number, sum-ge}
 use Rattle.arith.proofs.Laws.OrderHeld.{number-held}
 use Rattle.arith.proofs.Laws.Sizes.{Finite, K, Number, e-12-finite, e-12-positive, finite-number, sub-finite}

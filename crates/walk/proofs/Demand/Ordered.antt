@@ -7,9 +7,9 @@ use Rattle.profile.proofs.Each.{All, all-map, cons, nil}
 use Rattle.bands.specs.declared.shapes.RadialBand.{RadialBand}
 use Rattle.bands.proofs.AxialBox.{Ordered}
 use Rattle.bands.proofs.Limit.{InLimit}
-use Rattle.walk.specs.Pieces.{pieceBox, wholeWidth}
+use Rattle.pieces.specs.Pieces.{pieceBox, wholeWidth}
+use Rattle.pieces.specs.declared.shapes.Piece.{Piece}
 use Rattle.walk.specs.Walk.{Walk, sampled, start, walk, walkAll}
-use Rattle.walk.specs.declared.shapes.Piece.{Piece}
 use Rattle.walk.proofs.Demand.Pieces.{Sound, boxOf-ordered, waiting-sound, wholeWidth-sound}
 
 module _ (s : List Float) {b : RadialBand} (B : InLimit b) (tol : Float) where

@@ -25,9 +25,9 @@ use Rattle.bands.proofs.AxialBox.{Ordered}
 use Rattle.bands.proofs.HalfWidth.{halfWidth-finite}
 use Rattle.bands.proofs.Limit.{InLimit}
 use Rattle.bands.proofs.Spans.{SpanFinite, span-least, span-order, spanAt-finite}
-use Rattle.walk.specs.Pieces.{pieceBox, narrowest, piece, variation, wholeWidth, widest}
-use Rattle.walk.specs.Walk.{boxHit, halved, halves, thinBox, waiting}
-use Rattle.walk.specs.declared.shapes.Piece.{Piece}
+use Rattle.pieces.specs.Pieces.{pieceBox, narrowest, piece, variation, wholeWidth, widest, boxHit, halves}
+use Rattle.pieces.specs.declared.shapes.Piece.{Piece}
+use Rattle.walk.specs.Walk.{halved, thinBox, waiting}
 
 pub record Sound (p : Piece) : Type 0 where
   pub z0 : Finite 21 (p .z0)

@@ -18,9 +18,9 @@ use Rattle.section.proofs.Demand.Boxes.{box-atMost}
 use Rattle.section.proofs.Demand.Hits.{BestAtMost, HitAtMost, LeastAtMost, VerticesAtMost, found, min-new, nearer-new}
 use Rattle.section.proofs.Demand.Hits.{best-raise, no-distance, none-yet, some-distance}
 use Rattle.profile.proofs.Each.{All, cons, nil}
+use Rattle.pieces.specs.declared.shapes.Piece.{Piece}
 use Rattle.walk.specs.Walk.{Walk, better, dropped, measured, start, walk}
 use Rattle.walk.specs.Walk.{walkAll, walked}
-use Rattle.walk.specs.declared.shapes.Piece.{Piece}
 use Rattle.bands.specs.declared.shapes.RadialBand.{RadialBand}
 use Rattle.bands.proofs.Limit.{InLimit}
 use Rattle.walk.proofs.Demand.Pieces.{Sound, boxOf-atMost, variation-finite, waiting-sound}

@@ -2,8 +2,8 @@
 use Prim.Native.Nat.{_-_}
 use native.Mathlib.Omega.{arith}
 use mathlib.Core.Path.{refl, _∙_}
+use Rattle.pieces.proofs.KnownEnds.{Held, held-first, taken, held-next}
 use Rattle.walk.proofs.Loop.{State, begun, ended, cut-short, has-box, has-room, turned}
-use Rattle.walk.proofs.KnownEnds.{Held, held-first, taken, held-next}
 use borrow.Author.Needs.{needs}
 use Rattle.walk.proofs.walk.walk_with.Statement.{statement}
 use Rattle.walk.proofs.walk.walk_with.Tie as tie
