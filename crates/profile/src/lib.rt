@@ -1,5 +1,6 @@
 // A profile is a lent list of numbers, z and radius in turn: its vertices and edges, and what is
 // turned down.
+mod fine;
 mod refusal;
 mod shapes;
 mod vertices;

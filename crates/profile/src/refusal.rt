@@ -4,6 +4,7 @@ ghost use mathlib.Core.List.{[], _∷_, _++_};
 ghost use Rattle.profile.specs.Refusals as refusals;
 ghost use Rattle.profile.specs.Refusals.{refusal, anyOf};
 ghost use Rattle.profile.specs.Steps.{beyondLimit, orElse, WithSettings};
+use super::fine::numbers_fine;
 use super::shapes::Aabb;
 use super::shapes::Sphere;
 use arith::Vec3;
@@ -22,7 +23,7 @@ fn any_not_finite(l: &[f64]) -> bool
     false
 }
 
-fn any_beyond_limit(l: &[f64]) -> bool
+pub fn any_beyond_limit(l: &[f64]) -> bool
     ensures { λ r. ⌜ r ≡ anyOf beyondLimit (now (l .entry)) ⌝ }
 {
     let mut i = 0;
@@ -60,14 +61,14 @@ fn beyond_limit_in(a: &[f64], b: &[f64], c: &[f64]) -> bool
     any_beyond_limit(c)
 }
 
-// Numbers 4 and 5 over three lists. One look at each number is enough where all are within the limit.
+// Numbers 4 and 5 over three lists.
 fn numbers_refusal(a: &[f64], b: &[f64], c: &[f64]) -> u32
     ensures { λ r. ⌜ r ≡ refusal (refusals.numberTests (now (a .entry) ++ (now (b .entry) ++ now (c .entry)))) ⌝ }
 {
+    if not_finite_in(a, b, c) {
+        return 4;
+    }
     if beyond_limit_in(a, b, c) {
-        if not_finite_in(a, b, c) {
-            return 4;
-        }
         return 5;
     }
     0
@@ -122,8 +123,11 @@ pub fn list_refusal(l: &[f64], least: usize, most: usize) -> u32
     if of_shape != 0 {
         return of_shape;
     }
-    let none = [0.0; 0];
-    numbers_refusal(l, &none, &none)
+    if any_beyond_limit(l) {
+        let none = [0.0; 0];
+        return numbers_refusal(l, &none, &none);
+    }
+    0
 }
 
 // Number 9: a body's radius is below 0.
@@ -147,10 +151,13 @@ pub fn bounds_refusal(x: Aabb) -> u32
 pub fn alone_refusal(numbers: &[f64], own: u32) -> u32
     ensures { λ r. ⌜ r ≡ orElse (refusal (refusals.numberTests (now (numbers .entry)))) own ⌝ }
 {
-    let none = [0.0; 0];
-    let of_body = numbers_refusal(numbers, &none, &none);
-    if of_body != 0 {
-        return of_body;
+    if any_beyond_limit(numbers) {
+        let none = [0.0; 0];
+        let of_body = numbers_refusal(numbers, &none, &none);
+        if of_body != 0 {
+            return of_body;
+        }
+        return own;
     }
     own
 }
@@ -193,6 +200,12 @@ pub fn body_refusal(s: &[f64], numbers: &[f64], extra: &[f64], settings: u32, ow
     if of_shape != 0 {
         return of_shape;
     }
+    if numbers_fine(s, numbers, extra) {
+        if settings != 0 {
+            return settings;
+        }
+        return own;
+    }
     let of_numbers = numbers_refusal(s, numbers, extra);
     if of_numbers != 0 {
         return of_numbers;
@@ -233,6 +246,9 @@ pub fn convex_refusal(c: &[f64], s: &[f64], extra: &[f64]) -> u32
     let of_shapes = shapes_refusal(c, s);
     if of_shapes != 0 {
         return of_shapes;
+    }
+    if numbers_fine(s, c, extra) {
+        return 0;
     }
     let number = numbers_refusal(c, s, extra);
     if number != 0 {

@@ -1,14 +1,15 @@
 -- What is beyond the limit is what number 4 or number 5 turns down, of one number and of a list.
 use mathlib.Core.Bool.{Bool, true, false, true≢false, not, _||_, cond}
-use mathlib.Core.List.{List, [], _∷_}
+use mathlib.Core.List.{List, [], _∷_, _++_}
 use mathlib.Core.Path.{_≡_, refl, sym, _∙_}
 use lib.Ieee.{Float, nan, inf, fin, neg, lt, le, eq, ofBits}
 use lib.IntN.{pos}
 use Rattle.arith.specs.F64.{_≺_, _≼_, 𝟘, limit}
 use Rattle.arith.specs.Num.{isFinite}
 use Rattle.arith.proofs.Laws.Order.{finite-lt-is-not-le}
-use Rattle.profile.specs.Refusals.{anyOf, notFinite, overLimit}
-use Rattle.profile.specs.Steps.{beyondLimit}
+use Rattle.profile.specs.Refusals.{anyBelowAxis, anyOf, axisTests, notFinite, numberTests, overLimit, refusal}
+use Rattle.profile.specs.Steps.{NumbersFine, beyondLimit}
+use Rattle.profile.proofs.Refusals.AnyOf.{none-of-three}
 
 beyond-is : (x : Float) → beyondLimit x ≡ (notFinite x || overLimit x)
 unfolding lt le eq neg isFinite ofBits
@@ -44,3 +45,21 @@ none-beyond l e = go (anyOf notFinite l) (sym (any-beyond l) ∙ e)
 
 pub some-over : (l : List Float) → anyOf beyondLimit l ≡ true → anyOf notFinite l ≡ false → anyOf overLimit l ≡ true
 some-over l e h = rw (any-beyond l, h) at e
+
+-- nothing is, of a section, a body's numbers and more that are fine, in either order
+module _ {s numbers extra : List Float} (fine : NumbersFine s numbers extra) where
+  pub none-within : anyOf beyondLimit (s ++ (numbers ++ extra)) ≡ false
+  none-within = none-of-three beyondLimit s numbers extra (fine .section .within) (fine .numbers-within) (fine .extra-within)
+
+  pub none-within-second : anyOf beyondLimit (numbers ++ (s ++ extra)) ≡ false
+  none-within-second =
+      none-of-three beyondLimit numbers s extra (fine .numbers-within) (fine .section .within) (fine .extra-within)
+
+-- so that neither 4 nor 5 applies; nor does 6 where no radius is below -1e-9
+pub none-refused : (given : List Float) → anyOf beyondLimit given ≡ false → 0 ≡ refusal (numberTests given)
+unfolding refusal
+none-refused given e = let none = none-beyond given e in rw (none .0, none .1)
+
+pub none-below : (s : List Float) → anyBelowAxis s ≡ false → refusal (axisTests s) ≡ 0
+unfolding refusal
+none-below s e = rw e

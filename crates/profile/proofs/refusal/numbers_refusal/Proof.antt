@@ -2,32 +2,28 @@
 use borrow.Author.Needs.{needs}
 use mathlib.Core.Path.{sym, _∙_}
 use Rattle.profile.specs.Refusals.{refusal}
-use Rattle.profile.proofs.Refusals.Beyond.{none-beyond, some-over}
+use Rattle.profile.proofs.Refusals.Beyond.{none-refused, some-over}
 use Rattle.profile.proofs.refusal.numbers_refusal.Statement.{statement}
 use Rattle.profile.proofs.refusal.numbers_refusal.Tie as tie
-
-beyond-limit-in-requires : tie.Need-beyond-limit-in-requires
-beyond-limit-in-requires c κs = search needs
 
 not-finite-in-requires : tie.Need-not-finite-in-requires
 not-finite-in-requires c κs = search needs
 
 returns : tie.Need-returns
 unfolding refusal
-returns c = rw (← c .before .not-finite-in .ensures, c .if2 .taken)
+returns c = rw (← c .before .not-finite-in .ensures, c .if1 .taken)
+
+beyond-limit-in-requires : tie.Need-beyond-limit-in-requires
+beyond-limit-in-requires c κs = search needs
 
 returns-2 : tie.Need-returns-2
 unfolding refusal
 returns-2 c =
-    let finite = sym (c .before .not-finite-in .ensures) ∙ c .if2 .left in
-    let beyond = sym (c .before .before .before .beyond-limit-in .ensures) ∙ c .before .before .if1 .taken in
-    rw (finite, some-over _ beyond finite)
+    let finite = sym (c .before .before .before .not-finite-in .ensures) ∙ c .before .before .if1 .left in
+    rw (finite, some-over _ (sym (c .before .beyond-limit-in .ensures) ∙ c .if2 .taken) finite)
 
 returns-3 : tie.Need-returns-3
-unfolding refusal
-returns-3 c =
-    let none = none-beyond _ (sym (c .before .beyond-limit-in .ensures) ∙ c .if1 .left) in
-    rw (none .0, none .1)
+returns-3 c = none-refused _ (sym (c .before .beyond-limit-in .ensures) ∙ c .if2 .left)
 
 pub numbers-refusal-spec : {M : Type 1} → statement M
-numbers-refusal-spec = tie.close (tie.spec beyond-limit-in-requires not-finite-in-requires returns returns-2 returns-3)
+numbers-refusal-spec = tie.close (tie.spec not-finite-in-requires returns beyond-limit-in-requires returns-2 returns-3)
