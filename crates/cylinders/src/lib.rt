@@ -8,5 +8,7 @@ pub use shapes::CountedAnswer;
 
 // For the crates above, without checks of the input.
 pub use queries::cylinder_distance;
+pub use refusal::cylinder_check;
 pub use refusal::cylinder_refusal;
 pub use refusal::own_refusal;
+pub use shapes::CylinderCheck;

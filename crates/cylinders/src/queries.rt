@@ -10,13 +10,12 @@ ghost use Rattle.cylinders.specs.Promised.{Promised};
 ghost use Rattle.cylinders.specs.Steps.{Measurable};
 ghost use Rattle.profile.specs.Replies.{Answers};
 ghost use Rattle.walk.specs.Steps.{WalkableWith};
-use super::refusal::cylinder_refusal;
+use super::refusal::cylinder_check;
 use super::shapes::CountedAnswer;
 use bands::Axis;
 use bands::Cylinder;
 use bands::RadialBand;
 use bands::axial_box;
-use bands::axis_of;
 use bands::exchanged;
 use settings::Settings;
 use settings::settings_refusal;
@@ -58,11 +57,11 @@ pub fn query_cylinder(section: &[f64], cylinder: Cylinder, settings: Settings) -
         Answers (told r) (cylinderAnswer s cylinder settings) (Promised s cylinder settings))
         ⌝ }
 {
-    let axis = axis_of(cylinder);
     let none = [0.0; 0];
-    let number = cylinder_refusal(section, cylinder, axis, &none, settings_refusal(settings));
-    if number != 0 {
-        return CountedAnswer::Refused(number);
+    let check = cylinder_check(section, cylinder, &none, settings_refusal(settings));
+    if check.number != 0 {
+        return CountedAnswer::Refused(check.number);
     }
+    let axis = check.axis;
     CountedAnswer::Hit(cylinder_distance(section, cylinder, axis, settings))
 }

@@ -4,8 +4,10 @@ ghost use Rattle.profile.specs.Refusals.{refusal};
 ghost use Rattle.bands.specs.Axis as axes;
 ghost use Rattle.cylinders.specs.Cylinders.{cylinderOwn};
 ghost use Rattle.cylinders.specs.Steps.{Checked};
+use super::shapes::CylinderCheck;
 use bands::Axis;
 use bands::Cylinder;
+use bands::axis_of;
 use profile::body_refusal;
 
 // A negative radius, and an axis neither along nor across the spindle.
@@ -37,4 +39,15 @@ pub fn cylinder_refusal(s: &[f64], c: Cylinder, axis: Axis, extra: &[f64], setti
         settings,
         own_refusal(c.radius, axis),
     )
+}
+
+// The axis and the number at once: compiled once and called thrice, so that the query and the verdicts above stay small.
+pub fn cylinder_check(s: &[f64], c: Cylinder, extra: &[f64], settings: u32) -> CylinderCheck
+    ensures { λ r. ⌜ (r .axis ≡ axes.axis c) × Checked (now (s .entry)) c (now (extra .entry)) settings (r .number) ⌝ }
+{
+    let axis = axis_of(c);
+    CylinderCheck {
+        axis,
+        number: cylinder_refusal(s, c, axis, extra, settings),
+    }
 }

@@ -6,12 +6,11 @@ ghost use Rattle.verdicts.specs.Verdicts.{told, collides, bodyVerdict, c
 use super::shapes::Verdict;
 use super::tilt::less_tilt;
 use bands::Cylinder;
-use bands::axis_of;
 use bodies::Body;
 use boxes::box_distance;
 use convex::convex_distance;
+use cylinders::cylinder_check;
 use cylinders::cylinder_distance;
-use cylinders::cylinder_refusal;
 use points::sphere_distance;
 use profile::Aabb;
 use profile::Sphere;
@@ -63,12 +62,12 @@ pub fn verdict_box(section: &[f64], x: Aabb, clearance: f64) -> Verdict
 pub fn verdict_cylinder(section: &[f64], cylinder: Cylinder, clearance: f64) -> Verdict
     ensures { λ r. ⌜ told r ≡ bodyVerdict (now (section .entry)) (body·kinds.Cylinder cylinder) clearance ⌝ }
 {
-    let axis = axis_of(cylinder);
     let extra = [clearance];
-    let number = cylinder_refusal(section, cylinder, axis, &extra[..], 0);
-    if number != 0 {
-        return Verdict::Refused(number);
+    let check = cylinder_check(section, cylinder, &extra[..], 0);
+    if check.number != 0 {
+        return Verdict::Refused(check.number);
     }
+    let axis = check.axis;
     let counted = cylinder_distance(section, cylinder, axis, finest());
     judged(less_tilt(axis, cylinder, counted.hit.distance), clearance)
 }

@@ -7,9 +7,8 @@ use super::shapes::JudgedWalk;
 use super::shapes::WalkVerdict;
 use bands::Axis;
 use bands::Cylinder;
-use bands::axis_of;
+use cylinders::cylinder_check;
 use cylinders::cylinder_distance;
-use cylinders::cylinder_refusal;
 use settings::finest;
 use verdicts::collides;
 use verdicts::less_tilt;
@@ -31,12 +30,12 @@ fn judged_walk(axis: Axis, cylinder: Cylinder, clearance: f64, h: CountedHit) ->
 pub fn verdict_walk(section: &[f64], cylinder: Cylinder, clearance: f64) -> WalkVerdict
     ensures { λ r. ⌜ Answers (told r) (walkVerdict (now (section .entry)) cylinder clearance) FewCounted ⌝ }
 {
-    let axis = axis_of(cylinder);
     let extra = [clearance];
-    let number = cylinder_refusal(section, cylinder, axis, &extra[..], 0);
-    if number != 0 {
-        return WalkVerdict::Refused(number);
+    let check = cylinder_check(section, cylinder, &extra[..], 0);
+    if check.number != 0 {
+        return WalkVerdict::Refused(check.number);
     }
+    let axis = check.axis;
     let counted = cylinder_distance(section, cylinder, axis, finest());
     WalkVerdict::Judged(judged_walk(axis, cylinder, clearance, counted))
 }

@@ -9,45 +9,43 @@ use Rattle.cylinders.proofs.Promise.{promised}
 use Rattle.cylinders.proofs.queries.query_cylinder.Statement.{statement}
 use Rattle.cylinders.proofs.queries.query_cylinder.Tie as tie
 
-axis-of-requires : tie.Need-axis-of-requires
-axis-of-requires c κs = search needs
-
-slice-aggregate-cylinder-refusal : tie.Need-slice-aggregate-cylinder-refusal
-slice-aggregate-cylinder-refusal c = search needs
+slice-aggregate-cylinder-check : tie.Need-slice-aggregate-cylinder-check
+slice-aggregate-cylinder-check c = search needs
 
 settings-refusal-requires : tie.Need-settings-refusal-requires
 settings-refusal-requires c κs = search needs
 
-cylinder-refusal-requires : tie.Need-cylinder-refusal-requires
-cylinder-refusal-requires c κs = c .before .before .axis-of .ensures
+cylinder-check-requires : tie.Need-cylinder-check-requires
+cylinder-check-requires c κs = search needs
 
 returns : tie.Need-returns
 unfolding cylinderAnswer
 returns c =
     let start = c .before .before .before .before .before .before in
-    let checked = c .before .cylinder-refusal .ensures in
+    let checked = c .before .before .cylinder-check .ensures .1 in
+    let number = c .before .before .before .settings-refusal .ensures in
     let t = start .args .settings in
     let f64 = is-f64 (t .tolerance) (start .good .1 .1 .0 .1 .1 .0 .1) in
     answered (Promised _ _ t) (promised _ _ t (checked .f64s) f64)
-    (rw (← checked .number (settingsTests t) tt (c .before .before .settings-refusal .ensures)) (refused _ _ (c .if1 .taken)))
+    (rw (← checked .number (settingsTests t) tt number) (refused _ _ (c .if1 .taken)))
 
 cylinder-distance-requires : tie.Need-cylinder-distance-requires
 cylinder-distance-requires c κs =
     let start = c .before .before .before .before .before .before in
-    let number = c .before .before .settings-refusal .ensures in
-    query-measurable (is-f64 _ (start .good .1 .1 .0 .1 .1 .0 .1)) (c .before .before .before .before .axis-of .ensures)
-    (c .before .cylinder-refusal .ensures) number (c .if1 .left)
+    let check = c .before .before .cylinder-check .ensures in
+    let number = c .before .before .before .settings-refusal .ensures in
+    query-measurable (is-f64 _ (start .good .1 .1 .0 .1 .1 .0 .1)) (check .0) (check .1) number (c .if1 .left)
 
 returns-2 : tie.Need-returns-2
 unfolding cylinderAnswer
 returns-2 c =
     let start = c .before .before .before .before .before .before .before in
-    let checked = c .before .before .cylinder-refusal .ensures in
+    let checked = c .before .before .before .cylinder-check .ensures .1 in
     let t = start .args .settings in
     let f64 = is-f64 (t .tolerance) (start .good .1 .1 .0 .1 .1 .0 .1) in
     answered (Promised _ _ t) (promised _ _ t (checked .f64s) f64)
     (rw (
-      ← checked .number (settingsTests t) tt (c .before .before .before .settings-refusal .ensures),
+      ← checked .number (settingsTests t) tt (c .before .before .before .before .settings-refusal .ensures),
       c .before .if1 .left,
       c .cylinder-distance .ensures,
     ))
@@ -56,10 +54,9 @@ pub query-cylinder-spec : {M : Type 1} → statement M
 query-cylinder-spec =
     tie.close
     (tie.spec
-    axis-of-requires
-    slice-aggregate-cylinder-refusal
+    slice-aggregate-cylinder-check
     settings-refusal-requires
-    cylinder-refusal-requires
+    cylinder-check-requires
     returns
     cylinder-distance-requires
     returns-2)

@@ -8,27 +8,23 @@ use Rattle.verdicts.specs.Verdicts.{bodyVerdict}
 use Rattle.verdicts.proofs.verdicts.verdict_cylinder.Statement.{statement}
 use Rattle.verdicts.proofs.verdicts.verdict_cylinder.Tie as tie
 
-axis-of-requires : tie.Need-axis-of-requires
-axis-of-requires c κs = search needs
+slice-aggregate-cylinder-check : tie.Need-slice-aggregate-cylinder-check
+slice-aggregate-cylinder-check c = search needs
 
-slice-aggregate-cylinder-refusal : tie.Need-slice-aggregate-cylinder-refusal
-slice-aggregate-cylinder-refusal c = search needs
-
-cylinder-refusal-requires : tie.Need-cylinder-refusal-requires
-cylinder-refusal-requires c κs = c .before .axis-of .ensures
+cylinder-check-requires : tie.Need-cylinder-check-requires
+cylinder-check-requires c κs = search needs
 
 returns : tie.Need-returns
 unfolding bodyVerdict
-returns c = rw (← c .before .cylinder-refusal .ensures .number [] tt no-settings) (refused _ _ (c .if1 .taken))
+returns c = rw (← c .before .before .cylinder-check .ensures .1 .number [] tt no-settings) (refused _ _ (c .if1 .taken))
 
 finest-requires : tie.Need-finest-requires
 finest-requires c κs = search needs
 
 cylinder-distance-requires : tie.Need-cylinder-distance-requires
 cylinder-distance-requires c κs =
-    rw (c .finest .ensures)
-    (finest-measurable (c .before .before .before .before .axis-of .ensures) (c .before .before .cylinder-refusal .ensures)
-    (c .before .if1 .left))
+    let check = c .before .before .before .cylinder-check .ensures in
+    rw (c .finest .ensures) (finest-measurable (check .0) (check .1) (c .before .if1 .left))
 
 less-tilt-requires : tie.Need-less-tilt-requires
 less-tilt-requires c κs = search needs
@@ -39,12 +35,13 @@ judged-requires c κs = search needs
 returns-2 : tie.Need-returns-2
 unfolding bodyVerdict
 returns-2 c =
+    let check = c .before .before .before .before .before .before .cylinder-check .ensures in
     rw (
-      ← c .before .before .before .before .before .cylinder-refusal .ensures .number [] tt no-settings,
+      ← check .1 .number [] tt no-settings,
       c .before .before .before .before .if1 .left,
       ← c .before .before .before .finest .ensures,
       ← c .before .before .cylinder-distance .ensures,
-      ← c .before .before .before .before .before .before .before .axis-of .ensures,
+      ← check .0,
       ← c .before .less-tilt .ensures,
     )
     (c .judged .ensures)
@@ -53,9 +50,8 @@ pub verdict-cylinder-spec : {M : Type 1} → statement M
 verdict-cylinder-spec =
     tie.close
     (tie.spec
-    axis-of-requires
-    slice-aggregate-cylinder-refusal
-    cylinder-refusal-requires
+    slice-aggregate-cylinder-check
+    cylinder-check-requires
     returns
     finest-requires
     cylinder-distance-requires

@@ -9,19 +9,16 @@ use Rattle.walk_verdicts.proofs.Counted.{few-counted}
 use Rattle.walk_verdicts.proofs.judging.verdict_walk.Statement.{statement}
 use Rattle.walk_verdicts.proofs.judging.verdict_walk.Tie as tie
 
-axis-of-requires : tie.Need-axis-of-requires
-axis-of-requires c κs = search needs
+slice-aggregate-cylinder-check : tie.Need-slice-aggregate-cylinder-check
+slice-aggregate-cylinder-check c = search needs
 
-slice-aggregate-cylinder-refusal : tie.Need-slice-aggregate-cylinder-refusal
-slice-aggregate-cylinder-refusal c = search needs
-
-cylinder-refusal-requires : tie.Need-cylinder-refusal-requires
-cylinder-refusal-requires c κs = c .before .axis-of .ensures
+cylinder-check-requires : tie.Need-cylinder-check-requires
+cylinder-check-requires c κs = search needs
 
 returns : tie.Need-returns
 unfolding walkVerdict
 returns c =
-    let checked = c .before .cylinder-refusal .ensures in
+    let checked = c .before .before .cylinder-check .ensures .1 in
     answered FewCounted (few-counted _ _ _ (checked .f64s))
     (rw (← checked .number [] tt no-settings) (refused _ _ (c .if1 .taken)))
 
@@ -30,9 +27,8 @@ finest-requires c κs = search needs
 
 cylinder-distance-requires : tie.Need-cylinder-distance-requires
 cylinder-distance-requires c κs =
-    rw (c .finest .ensures)
-    (finest-measurable (c .before .before .before .before .axis-of .ensures) (c .before .before .cylinder-refusal .ensures)
-    (c .before .if1 .left))
+    let check = c .before .before .before .cylinder-check .ensures in
+    rw (c .finest .ensures) (finest-measurable (check .0) (check .1) (c .before .if1 .left))
 
 judged-walk-requires : tie.Need-judged-walk-requires
 judged-walk-requires c κs = search needs
@@ -40,14 +36,14 @@ judged-walk-requires c κs = search needs
 returns-2 : tie.Need-returns-2
 unfolding walkVerdict
 returns-2 c =
-    let checked = c .before .before .before .before .cylinder-refusal .ensures in
-    answered FewCounted (few-counted _ _ _ (checked .f64s))
+    let check = c .before .before .before .before .before .cylinder-check .ensures in
+    answered FewCounted (few-counted _ _ _ (check .1 .f64s))
     (rw (
-      ← checked .number [] tt no-settings,
+      ← check .1 .number [] tt no-settings,
       c .before .before .before .if1 .left,
       ← c .before .before .finest .ensures,
       ← c .before .cylinder-distance .ensures,
-      ← c .before .before .before .before .before .before .axis-of .ensures,
+      ← check .0,
       c .judged-walk .ensures,
     ))
 
@@ -55,9 +51,8 @@ pub verdict-walk-spec : {M : Type 1} → statement M
 verdict-walk-spec =
     tie.close
     (tie.spec
-    axis-of-requires
-    slice-aggregate-cylinder-refusal
-    cylinder-refusal-requires
+    slice-aggregate-cylinder-check
+    cylinder-check-requires
     returns
     finest-requires
     cylinder-distance-requires
