@@ -33,6 +33,15 @@ impl Vec3 {
     pub fn length(self) -> f64
         ensures { λ r. ⌜ r ≡ norm self ⌝ }
     {
+        // Along z the length is the magnitude of z: no root. Of a zero, 0.0 - z is +0.
+        if self.x == 0.0 {
+            if self.y == 0.0 {
+                if self.z > 0.0 {
+                    return self.z;
+                }
+                return 0.0 - self.z;
+            }
+        }
         let across = hypot(self.x, self.y);
         hypot(across, self.z)
     }

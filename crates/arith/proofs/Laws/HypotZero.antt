@@ -1,22 +1,24 @@
--- A root is exact at squares, for the root of a square is its own rounding; so hypot(x, 0) is |x|.
-use Prim.Native.Nat.{_*_, _+_, _/_, _<_, _^_, suc, ℕ}
-use mathlib.Core.Bool.{Bool, false, not, true}
+-- A root is exact at squares, for the root of a square is its own rounding; so hypot(x, 0) is |x|, and the length along z is |z|.
+use Prim.Native.Nat.{_*_, _+_, _-_, _/_, _<_, _^_, suc, zero, zero-le, ℕ}
+use mathlib.Core.Bool.{Bool, cond, false, not, true}
 use mathlib.Core.Path.{ap, refl, subst, sym, _∙_, _≡_}
-use native.Mathlib.Nat.{add-zero, le-of-eq, mul-pos, zero-lt-suc, zero-mul}
+use native.Mathlib.Nat.{add-zero, le-of-eq, mul-one, mul-pos, one-mul, zero-add, zero-lt-suc, zero-mul}
 use native.Mathlib.Omega.{arith}
-use lib.Dec.{T}
-use lib.Ieee.{down, emax, fin, fits, Float, Format, inf, isNan, low, nan, round, up}
+use borrow.Author.Tests.{le-ltb, lt-ltb}
+use lib.Dec.{eqb, eqb→eq, T}
+use lib.Ieee.{add, below, down, emax, eq, fin, fits, Float, Format, inf, isNan, low, lt, nan, neg, round, sub, sum, up}
 use lib.Ieee.Exact.{HasValue, round-exact}
-use lib.Ieee.Fits.{and-i, and-l, and-r, round-fits}
+use lib.Ieee.Fits.{and-i, and-l, and-r, round-fits, up-pos}
 use lib.Ieee.Scale.{round-same}
 use lib.IntN.{ℤ}
 use lib.Pow.{pow-pos}
-use Rattle.arith.proofs.Laws.Exact.{value-unique}
-use Rattle.arith.proofs.Laws.Hypot.{hypot-infinite, hypot-root, unsigned, unsigned-number}
+use Rattle.arith.proofs.Laws.Exact.{sub-zero, value-unique}
+use Rattle.arith.proofs.Laws.Hypot.{hypot-comm, hypot-infinite, hypot-root, hypot-unsigned, unsigned, unsigned-number}
+use Rattle.arith.proofs.Laws.OrderHeld.{true→T}
 use Rattle.roots.proofs.Root.Rounds.{root-round}
 use Rattle.roots.proofs.Root.Sticky.{stickyRoot, stickyRoot-ge, stickyRoot-le}
 use Rattle.roots.proofs.Rounding.Key.{finiteNumber, magnitude, mid, number-of, Representable, representable-of}
-use Rattle.roots.proofs.Rounding.Key.{unit, unit-pos}
+use Rattle.roots.proofs.Rounding.Key.{plusZero, unit, unit-pos}
 use Rattle.roots.specs.Roots.{hypot, root}
 
 stickyRoot-square : (t : ℕ) → stickyRoot (t * t) ≡ 4 * t
@@ -79,3 +81,39 @@ hypot-zero f (fin t m d) s e h =
     ∙ ap (λ (z : ℕ). root f (magnitude f x * magnitude f x + z * z)) (zero-magnitude f s e)
     ∙ ap (λ (z : ℕ). root f z) (add-zero (magnitude f x * magnitude f x))
     ∙ root-of-square f x (and-i (fits f x) true h tt)
+
+-- ---- a vector along z: x and y are zeros
+module _ (f : Format) where
+  hypot-level : (x y : Float) → T (fits f x) → eq y plusZero ≡ true → hypot f x y ≡ unsigned x
+  unfolding eq plusZero
+  hypot-level x nan h k = absurd (true→T k)
+  hypot-level x (inf s) h k = absurd (true→T k)
+  hypot-level x (fin s zero e) h k = hypot-zero f x s e h
+  hypot-level x (fin s (suc m) e) h k =
+      absurd (none m (up e) (down e) (up-pos e) (and-l (eqb (suc m * up e * 1) (0 * down e)) _ (true→T k)))
+    where
+      none : (m u d : ℕ) → 0 < u → T (eqb (suc m * u * 1) (0 * d)) → ⊥
+      none m u d h k = let e = eqb→eq (suc m * u * 1) (0 * d) k in omega arith
+
+  -- x of either sign is a / c in size: +x is x where that is above 0, else 0 - x
+  turned : (x : Bool → Float) (s : Bool) (a c : ℕ) → sum f false a true (0 * c) (c * 1) ≡ x false
+      → x false ≡ cond (below false (0 * c) s a) (x s) (sum f false (0 * c) (not s) a (1 * c))
+  unfolding sum
+  turned x true a c h = let e : a - 0 ≡ a = omega arith in
+      sym h ∙ rw (zero-mul c, one-mul c, mul-one c, zero-add a, le-ltb a 0 zero-le, e)
+  turned x false zero c h = sym h ∙ rw (zero-mul c, one-mul c, mul-one c)
+  turned x false (suc a) c h = rw (lt-ltb (0 * c) (suc a) (omega arith))
+
+  unsigned-is : (z : Float) → T (fits f z) → unsigned z ≡ cond (lt plusZero z) z (sub f plusZero z)
+  unfolding lt sub add neg plusZero isNan
+  unsigned-is nan h = refl
+  unsigned-is (inf true) h = refl
+  unsigned-is (inf false) h = refl
+  unsigned-is (fin s m e) h = turned (λ (t : Bool). fin t m e) s (m * up e * 1) (down e)
+      (sub-zero f (fin false m e) (unsigned-number f (fin s m e) (and-i (fits f (fin s m e)) true h tt)))
+
+  pub norm-along-z : {b : Bool} (x y z : Float) → T (fits f x) → T (fits f z) → eq x plusZero ≡ true → eq y plusZero ≡ true
+      → lt plusZero z ≡ b → cond b z (sub f plusZero z) ≡ hypot f (hypot f x y) z
+  norm-along-z x y z X Z p q h =
+      sym (ap (λ (v : Float). hypot f v z) (hypot-level x y X q) ∙ hypot-unsigned f x z ∙ hypot-comm f x z
+      ∙ hypot-level z x Z p ∙ unsigned-is z Z ∙ ap (λ (t : Bool). cond t z (sub f plusZero z)) h)
