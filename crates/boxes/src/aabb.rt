@@ -208,6 +208,7 @@ pub fn box_distance(s: &[f64], x: Aabb) -> CollisionHit
     requires { ⌜ 3 ≤ count (now s) ⌝ }
     ensures { λ r. ⌜ r ≡ boxDistance (now (s .entry)) x ⌝ }
 {
+    // no edge has that number: no hint
     let n = s.len();
     box_distance_near(s, x, n)
 }
