@@ -1,4 +1,4 @@
--- `walk::shapes::RadialBand::from_cylinder` meets its contract.
+-- `bands::shapes::RadialBand::from_cylinder` meets its contract.
 use Rattle.bands.specs.Band.{bandOf}
 use borrow.Author.Needs.{needs}
 use Rattle.bands.proofs.shapes.RadialBand.from_cylinder.Statement.{statement}

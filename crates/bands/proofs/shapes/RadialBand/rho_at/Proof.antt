@@ -1,4 +1,4 @@
--- `walk::shapes::RadialBand::rho_at` meets its contract.
+-- `bands::shapes::RadialBand::rho_at` meets its contract.
 use Rattle.bands.specs.Band.{halfWidth}
 use borrow.Author.Needs.{needs}
 use Rattle.bands.proofs.shapes.RadialBand.rho_at.Statement.{statement}

@@ -1,4 +1,4 @@
--- `walk::shapes::RadialBand::span_at_rho` meets its contract.
+-- `bands::shapes::RadialBand::span_at_rho` meets its contract.
 use Rattle.bands.specs.Band.{spanAt}
 use borrow.Author.Needs.{needs}
 use Rattle.bands.proofs.shapes.RadialBand.span_at_rho.Statement.{statement}
