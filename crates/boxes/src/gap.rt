@@ -3,10 +3,11 @@
 ghost use mathlib.Core.Path.{_≡_};
 ghost use mathlib.Core.Bool.{true, false};
 ghost use Prim.Native.Nat.{_<_, _≤_};
-ghost use Rattle.arith.specs.F64.{_≺_};
+ghost use Rattle.arith.specs.F64.{_≺_, 𝟘};
+ghost use Rattle.profile.specs.Vertices as profile;
 ghost use Rattle.profile.specs.Vertices.{count, vertexAt, endAt, edgeAt, nearer, nearestOf};
 ghost use Rattle.segments.specs.Legs.{Legs, Nearest};
-ghost use Rattle.segments.specs.Segments.{segments};
+ghost use Rattle.segments.specs.Segments.{along, segments};
 ghost use Rattle.ranges.specs.Ranges.{sidesOf};
 ghost use Rattle.boxes.specs.Boxes.{corners, edgeBox, boxGap};
 ghost use Rattle.boxes.specs.Steps.{Along, GapFrom, HeldBeside, Ranged};
@@ -69,6 +70,16 @@ fn nearest_side(edge: Edge, x: Aabb, sides: Sides, g: Sides, best: Near) -> Near
     nearer_side(edge, g, c01, c00, start, along_r, third)
 }
 
+// The box holds the edge from t on.
+fn entered(edge: Edge, t: f64) -> Near
+    ensures { λ r. ⌜ (r .hit ≡ profile.hit 𝟘 (profile.on (edge .number) (along (edge .a) (edge .b) t))) × Legs r ⌝ }
+{
+    legless(CollisionHit {
+        distance: 0.0,
+        witness: on(edge.number, lerp(edge.a, edge.b, t)),
+    })
+}
+
 // The edge may be nearer to the box.
 fn segment_aabb_distance(edge: Edge, x: Aabb, sides: Sides, g: Sides, best: Near) -> Near
     requires { ⌜ Along x sides edge g best ⌝ }
@@ -78,11 +89,7 @@ fn segment_aabb_distance(edge: Edge, x: Aabb, sides: Sides, g: Sides, best: Near
     let any = c.any;
     let t0 = c.t0;
     if any {
-        let entered = CollisionHit {
-            distance: 0.0,
-            witness: on(edge.number, lerp(edge.a, edge.b, t0)),
-        };
-        return nearer_near(best, legless(entered));
+        return nearer_near(best, entered(edge, t0));
     }
     nearest_side(edge, x, sides, g, best)
 }
@@ -143,13 +150,19 @@ fn gap_from(s: &[f64], x: Aabb, sides: Sides, from: usize, to: usize, start: Nea
 }
 
 // The edge that is tried first: nothing is known yet, so that it is not asked whether it may be passed over.
-fn first_gap(s: &[f64], x: Aabb, sides: Sides, k: usize, none: CollisionHit) -> Near
-    requires { ⌜ (k < count (now s)) × (sides ≡ sidesOf x) ⌝ }
-    ensures { λ r. ⌜ (r .hit ≡ nearer none (edgeBox x (edgeAt (now (s .entry)) k))) × Legs r ⌝ }
+fn first_gap(edge: Edge, x: Aabb, sides: Sides, none: CollisionHit) -> Near
+    requires { ⌜ sides ≡ sidesOf x ⌝ }
+    ensures { λ r. ⌜ (r .hit ≡ nearer none (edgeBox x edge)) × Legs r ⌝ }
 {
-    let edge = edge_at(s, k);
     let g = ranges_of(edge.a, edge.b);
-    segment_aabb_distance(edge, x, sides, g, legless(none))
+    let best = legless(none);
+    let c = clip_segment(edge.a, edge.b, x);
+    let any = c.any;
+    let t0 = c.t0;
+    if any {
+        return nearer_near(best, entered(edge, t0));
+    }
+    nearest_side(edge, x, sides, g, best)
 }
 
 pub fn box_gap(s: &[f64], x: Aabb, hint: usize) -> CollisionHit
@@ -164,7 +177,7 @@ pub fn box_gap(s: &[f64], x: Aabb, hint: usize) -> CollisionHit
     };
     let k = likely_edge_or(s, x, hint);
     let after = k + 1;
-    let first = first_gap(s, x, sides, k, none);
+    let first = first_gap(edge_at(s, k), x, sides, none);
     let start = start_over(first.hit, none);
     let before = gap_from(s, x, sides, 0, k, legless(start));
     let best = nearer_near(before, first);

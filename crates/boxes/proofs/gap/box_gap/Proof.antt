@@ -25,6 +25,9 @@ likely-edge-or-requires c κs = search needs
 add-after : tie.Need-add-after
 add-after c = search needs
 
+edge-at-requires : tie.Need-edge-at-requires
+edge-at-requires c κs = search needs
+
 first-gap-requires : tie.Need-first-gap-requires
 first-gap-requires c κs = search needs
 
@@ -38,7 +41,7 @@ gap-from-requires : tie.Need-gap-from-requires
 gap-from-requires c κs = (
   search needs,
   search needs,
-  c .before .before .before .before .before .before .before .sides-of .ensures,
+  c .before .before .before .before .before .before .before .before .sides-of .ensures,
   c .legless .ensures .1,
 )
 
@@ -49,7 +52,7 @@ gap-from-requires-2 : tie.Need-gap-from-requires-2
 gap-from-requires-2 c κs = (
   search needs,
   search needs,
-  c .before .before .before .before .before .before .before .before .before .sides-of .ensures,
+  c .before .before .before .before .before .before .before .before .before .before .sides-of .ensures,
   c .nearer-near .ensures .legs,
 )
 
@@ -57,13 +60,13 @@ returns : tie.Need-returns
 unfolding boxGap
 returns c =
     met-first _ (λ j. edge-held _ _) _ _ _
-    (c .before .before .before .before .before .before .before .likely-edge-or .ensures) _ _ _
+    (c .before .before .before .before .before .before .before .before .likely-edge-or .ensures) _ _ _
     (rw (
-      c .before .before .before .before .before .before .before .before .on .ensures,
-      c .before .before .before .before .before .before .before .before .before .vertex-at .ensures,
-      c .before .before .before .before .before .before .before .before .before .before .infinity .ensures,
+      c .before .before .before .before .before .before .before .before .before .on .ensures,
+      c .before .before .before .before .before .before .before .before .before .before .vertex-at .ensures,
+      c .before .before .before .before .before .before .before .before .before .before .before .infinity .ensures,
     ))
-    (c .before .before .before .before .before .before .first-gap .ensures .0)
+    (rw (c .before .before .before .before .before .before .before .edge-at .ensures) at (c .before .before .before .before .before .before .first-gap .ensures .0))
     (c .before .before .before .before .before .start-over .ensures)
     (rw (c .before .before .before .before .legless .ensures .0) at (c .before .before .before .gap-from .ensures .0))
     (c .before .before .nearer-near .ensures .hit) (c .before .gap-from2 .ensures .0)
@@ -78,6 +81,7 @@ box-gap-spec =
     on-requires
     likely-edge-or-requires
     add-after
+    edge-at-requires
     first-gap-requires
     start-over-requires
     legless-requires

@@ -13,24 +13,17 @@ use Rattle.boxes.proofs.gap.segment_aabb_distance.Tie as tie
 clip-segment-requires : tie.Need-clip-segment-requires
 clip-segment-requires c κs = search needs
 
-lerp-requires : tie.Need-lerp-requires
-lerp-requires c κs = search needs
-
-on-requires : tie.Need-on-requires
-on-requires c κs = search needs
-
-legless-requires : tie.Need-legless-requires
-legless-requires c κs = search needs
+entered-requires : tie.Need-entered-requires
+entered-requires c κs = search needs
 
 nearer-near-requires : tie.Need-nearer-near-requires
-nearer-near-requires c κs = (c .before .before .before .before .before .pre .legs, c .legless .ensures .1)
+nearer-near-requires c κs = (c .before .before .before .pre .legs, c .entered .ensures .1)
 
 returns : tie.Need-returns
 unfolding edgeBox
 returns c = record {
-  hit = rw (← c .before .before .before .before .before .clip-segment .ensures, c .before .before .before .before .if1 .taken)
-      (rw (c .before .legless .ensures .0, c .before .before .on .ensures, c .before .before .before .lerp .ensures) at
-      (c .nearer-near .ensures .hit));
+  hit = rw (← c .before .before .before .clip-segment .ensures, c .before .before .if1 .taken)
+      (rw (c .before .entered .ensures .0) at (c .nearer-near .ensures .hit));
   legs = c .nearer-near .ensures .legs;
 }
 
@@ -62,9 +55,7 @@ segment-aabb-distance-spec =
     tie.close
     (tie.spec
     clip-segment-requires
-    lerp-requires
-    on-requires
-    legless-requires
+    entered-requires
     nearer-near-requires
     returns
     nearest-side-requires
