@@ -149,6 +149,17 @@ fn gap_from(s: &[f64], x: Aabb, sides: Sides, from: usize, to: usize, start: Nea
     best
 }
 
+// Edges up to this one may be nearer to the box. Edge 0 is often tried first, and has none before it.
+fn gap_before(s: &[f64], x: Aabb, sides: Sides, k: usize, start: Near) -> Near
+    requires { ⌜ (k ≤ count (now s)) × (sides ≡ sidesOf x) × Legs start ⌝ }
+    ensures { λ r. ⌜ GapFrom (now (s .entry)) x 0 k (start .hit) (r .hit) × Legs r ⌝ }
+{
+    if k > 0 {
+        return gap_from(s, x, sides, 0, k, start);
+    }
+    start
+}
+
 // The edge that is tried first: nothing is known yet, so that it is not asked whether it may be passed over.
 fn first_gap(edge: Edge, x: Aabb, sides: Sides, none: CollisionHit) -> Near
     requires { ⌜ sides ≡ sidesOf x ⌝ }
@@ -179,7 +190,7 @@ pub fn box_gap(s: &[f64], x: Aabb, hint: usize) -> CollisionHit
     let after = k + 1;
     let first = first_gap(edge_at(s, k), x, sides, none);
     let start = start_over(first.hit, none);
-    let before = gap_from(s, x, sides, 0, k, legless(start));
+    let before = gap_before(s, x, sides, k, legless(start));
     let best = nearer_near(before, first);
     let last = gap_from(s, x, sides, after, n, best);
     last.hit

@@ -37,19 +37,18 @@ start-over-requires c κs = search needs
 legless-requires : tie.Need-legless-requires
 legless-requires c κs = search needs
 
-gap-from-requires : tie.Need-gap-from-requires
-gap-from-requires c κs = (
-  search needs,
+gap-before-requires : tie.Need-gap-before-requires
+gap-before-requires c κs = (
   search needs,
   c .before .before .before .before .before .before .before .before .sides-of .ensures,
   c .legless .ensures .1,
 )
 
 nearer-near-requires : tie.Need-nearer-near-requires
-nearer-near-requires c κs = search (c .gap-from .ensures .1, c .before .before .before .first-gap .ensures .1)
+nearer-near-requires c κs = search (c .gap-before .ensures .1, c .before .before .before .first-gap .ensures .1)
 
-gap-from-requires-2 : tie.Need-gap-from-requires-2
-gap-from-requires-2 c κs = (
+gap-from-requires : tie.Need-gap-from-requires
+gap-from-requires c κs = (
   search needs,
   search needs,
   c .before .before .before .before .before .before .before .before .before .before .sides-of .ensures,
@@ -68,8 +67,8 @@ returns c =
     ))
     (rw (c .before .before .before .before .before .before .before .edge-at .ensures) at (c .before .before .before .before .before .before .first-gap .ensures .0))
     (c .before .before .before .before .before .start-over .ensures)
-    (rw (c .before .before .before .before .legless .ensures .0) at (c .before .before .before .gap-from .ensures .0))
-    (c .before .before .nearer-near .ensures .hit) (c .before .gap-from2 .ensures .0)
+    (rw (c .before .before .before .before .legless .ensures .0) at (c .before .before .before .gap-before .ensures .0))
+    (c .before .before .nearer-near .ensures .hit) (c .before .gap-from .ensures .0)
 
 pub box-gap-spec : {M : Type 1} → statement M
 box-gap-spec =
@@ -85,7 +84,7 @@ box-gap-spec =
     first-gap-requires
     start-over-requires
     legless-requires
-    gap-from-requires
+    gap-before-requires
     nearer-near-requires
-    gap-from-requires-2
+    gap-from-requires
     returns)
