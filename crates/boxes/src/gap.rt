@@ -8,7 +8,7 @@ ghost use Rattle.profile.specs.Vertices as profile;
 ghost use Rattle.profile.specs.Vertices.{count, vertexAt, endAt, edgeAt, nearer, nearestOf};
 ghost use Rattle.segments.specs.Legs.{Legs, Nearest};
 ghost use Rattle.segments.specs.Segments.{along, segments};
-ghost use Rattle.ranges.specs.Ranges.{sidesOf};
+ghost use Rattle.ranges.specs.Ranges.{gapBetween, rangeOf, sidesOf};
 ghost use Rattle.boxes.specs.Boxes.{corners, edgeBox, boxGap};
 ghost use Rattle.boxes.specs.Steps.{Along, GapFrom, HeldBeside, Ranged};
 use profile::Aabb;
@@ -22,8 +22,9 @@ use ranges::Range;
 use ranges::Sides;
 use ranges::gap_between;
 use ranges::likely_edge_or;
+use ranges::misses_along;
 use ranges::misses_box;
-use ranges::passed_along;
+use ranges::range_of;
 use ranges::ranges_of;
 use ranges::sides_of;
 use ranges::start_over;
@@ -94,29 +95,36 @@ fn segment_aabb_distance(edge: Edge, x: Aabb, sides: Sides, g: Sides, best: Near
     nearest_side(edge, x, sides, g, best)
 }
 
-// The edge is not nearer than the best, as its range tells, and one axis that it is not clipped.
-fn passed_over(edge: Edge, x: Aabb, sides: Sides, g: Sides, best: Near) -> bool
-    requires { ⌜ Along x sides edge g best ⌝ }
+// The edge is not nearer than the best, as z alone tells of most edges: it lies this far from the box along z, and one of
+// the two sides across leaves nothing of it.
+fn passed_along_z(edge: Edge, x: Aabb, z: f64, best: Near) -> bool
+    requires { ⌜ z ≡ gapBetween (rangeOf (edge .a .z) (edge .b .z)) (sidesOf x .z) ⌝ }
     ensures { λ r. ⌜ (r ≡ true → (edgeBox x edge .distance ≺ best .hit .distance) ≡ false) ⌝ }
 {
     let a = edge.a;
     let b = edge.b;
-    let z = gap_between(g.z, sides.z);
-    let r = gap_between(g.r, sides.r);
-    if hopeless(z, r, best) {
-        return misses_box(a, b, x);
+    if z >= best.hit.distance {
+        return misses_along(a.z, b.z, x.z0, x.z1);
     }
     false
 }
 
-// The same, as z alone tells of most edges.
-fn passed_along_z(edge: Edge, x: Aabb, sides: Sides, best: Near) -> bool
-    requires { ⌜ sides ≡ sidesOf x ⌝ }
+// The same, as both axes tell.
+fn passed_over(edge: Edge, x: Aabb, sides: Sides, best: Near) -> bool
+    requires { ⌜ (sides ≡ sidesOf x) × Legs best ⌝ }
     ensures { λ r. ⌜ (r ≡ true → (edgeBox x edge .distance ≺ best .hit .distance) ≡ false) ⌝ }
 {
     let a = edge.a;
     let b = edge.b;
-    passed_along(best.hit.distance, a.z, b.z, x.z0, x.z1, sides.z)
+    let z = gap_between(range_of(a.z, b.z), sides.z);
+    if passed_along_z(edge, x, z, best) {
+        return true;
+    }
+    let r = gap_between(range_of(a.r, b.r), sides.r);
+    if hopeless(z, r, best) {
+        return misses_box(a, b, x);
+    }
+    false
 }
 
 // Edge k may be nearer to the box.
@@ -125,17 +133,11 @@ fn gap_at(s: &[f64], x: Aabb, sides: Sides, k: usize, best: Near) -> Near
     ensures { λ r. ⌜ Nearest best (edgeBox x (edgeAt (now (s .entry)) k)) r ⌝ }
 {
     let edge = edge_at(s, k);
-    if passed_along_z(edge, x, sides, best) {
-        return best;
-    }
     let g = ranges_of(edge.a, edge.b);
-    if passed_over(edge, x, sides, g, best) {
-        return best;
-    }
     segment_aabb_distance(edge, x, sides, g, best)
 }
 
-// Edges from this one up to that one may be nearer to the box.
+// Edges from this one up to that one may be nearer to the box. The best stays where it is while edges are passed over.
 fn gap_from(s: &[f64], x: Aabb, sides: Sides, from: usize, to: usize, start: Near) -> Near
     requires { ⌜ (from ≤ to) × (to ≤ count (now s)) × (sides ≡ sidesOf x) × Legs start ⌝ }
     ensures { λ r. ⌜ GapFrom (now (s .entry)) x from to (start .hit) (r .hit) × Legs r ⌝ }
@@ -143,8 +145,12 @@ fn gap_from(s: &[f64], x: Aabb, sides: Sides, from: usize, to: usize, start: Nea
     let mut best = start;
     let mut k = from;
     while k < to {
-        best = gap_at(s, x, sides, k, best);
-        k += 1;
+        if passed_over(edge_at(s, k), x, sides, best) {
+            k += 1;
+        } else {
+            best = gap_at(s, x, sides, k, best);
+            k += 1;
+        }
     }
     best
 }

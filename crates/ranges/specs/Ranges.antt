@@ -60,8 +60,3 @@ sideMisses p q =
 -- one of the two sides across one axis does so: the segment runs from a to b, the box from lo to hi
 unfoldable pub missesAlong : Float → Float → Float → Float → Bool
 missesAlong a b lo hi = sideMisses (neg (b ⊖ a)) (a ⊖ lo) || sideMisses (b ⊖ a) (hi ⊖ a)
-
--- along this axis the segment lies as far from h as this, and one of the two sides leaves nothing of it
-pub record PassedAlong (least a b lo hi : Float) (h : Range) : Type 0 where
-  pub far : (least ≼ gapBetween (rangeOf a b) h) ≡ true
-  pub missed : missesAlong a b lo hi ≡ true

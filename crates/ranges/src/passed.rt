@@ -2,7 +2,7 @@
 ghost use mathlib.Core.Path.{_≡_};
 ghost use mathlib.Core.Bool.{true};
 ghost use Rattle.segments.specs.Clip.{clip, outside};
-ghost use Rattle.ranges.specs.Ranges.{range, rangeOf, farApart, gapBetween, sideMisses, missesAlong, PassedAlong};
+ghost use Rattle.ranges.specs.Ranges.{range, rangeOf, farApart, gapBetween, sideMisses, missesAlong};
 ghost use Rattle.ranges.specs.Hull.{FarOff};
 use super::range::range_of;
 use super::shapes::Range;
@@ -75,7 +75,7 @@ fn side_misses(p: f64, q: f64) -> bool
 }
 
 // One of the two sides across one axis does so: the segment runs from a to b, the box from lo to hi.
-fn misses_along(a: f64, b: f64, lo: f64, hi: f64) -> bool
+pub fn misses_along(a: f64, b: f64, lo: f64, hi: f64) -> bool
     ensures { λ r. ⌜ r ≡ missesAlong a b lo hi ⌝ }
 {
     let d = b - a;
@@ -83,16 +83,6 @@ fn misses_along(a: f64, b: f64, lo: f64, hi: f64) -> bool
         return true;
     }
     side_misses(d, hi - a)
-}
-
-// Along this axis the segment lies as far from h as the best so far, and one side leaves nothing of it.
-pub fn passed_along(least: f64, a: f64, b: f64, lo: f64, hi: f64, h: Range) -> bool
-    ensures { λ r. ⌜ (r ≡ true → PassedAlong least a b lo hi h) ⌝ }
-{
-    if gap_between(range_of(a, b), h) >= least {
-        return misses_along(a, b, lo, hi);
-    }
-    false
 }
 
 // One side of the box alone leaves nothing of the segment from a to b.

@@ -17,8 +17,11 @@ abbrev μ-loop : tie.MeasureT-loop
 loop-holds : tie.Need-loop-holds Inv-loop μ-loop
 loop-holds c = (search needs, (λ a e. e), c .before .pre .3)
 
-gap-at-requires : tie.Need-gap-at-requires Inv-loop μ-loop
-gap-at-requires c κs = (search needs, c .before .before .before .pre .2, c .before .loop .inv .2)
+edge-at-requires : tie.Need-edge-at-requires Inv-loop μ-loop
+edge-at-requires c κs = search needs
+
+passed-over-requires : tie.Need-passed-over-requires Inv-loop μ-loop
+passed-over-requires c κs = (c .before .before .before .before .pre .2, c .before .before .loop .inv .2)
 
 add-k : tie.Need-add-k Inv-loop μ-loop
 add-k c = search needs
@@ -29,7 +32,24 @@ loop-less c = search needs
 loop-again : tie.Need-loop-again Inv-loop μ-loop
 loop-again c = (
   search needs,
-  (λ a e. upto-more _ _ _ (c .before .before .loop .inv .1 a e) (c .gap-at .ensures .hit)),
+  (λ a e. upto-more _ _ _ (c .before .before .before .before .loop .inv .1 a e)
+      (rw (← c .before .before .edge-at .ensures, c .before .passed-over .ensures (c .if1 .taken)))),
+  c .before .before .before .before .loop .inv .2,
+)
+
+gap-at-requires : tie.Need-gap-at-requires Inv-loop μ-loop
+gap-at-requires c κs = (search needs, c .before .before .before .before .before .before .pre .2, c .before .before .before .before .loop .inv .2)
+
+add-k-2 : tie.Need-add-k-2 Inv-loop μ-loop
+add-k-2 c = search needs
+
+loop-less-2 : tie.Need-loop-less-2 Inv-loop μ-loop
+loop-less-2 c = search needs
+
+loop-again-2 : tie.Need-loop-again-2 Inv-loop μ-loop
+loop-again-2 c = (
+  search needs,
+  (λ a e. upto-more _ _ _ (c .before .before .before .before .before .loop .inv .1 a e) (c .gap-at .ensures .hit)),
   c .gap-at .ensures .legs,
 )
 
@@ -43,8 +63,13 @@ gap-from-spec =
     Inv-loop
     μ-loop
     loop-holds
-    gap-at-requires
+    edge-at-requires
+    passed-over-requires
     add-k
     loop-less
     loop-again
+    gap-at-requires
+    add-k-2
+    loop-less-2
+    loop-again-2
     returns)

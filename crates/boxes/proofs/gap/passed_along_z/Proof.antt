@@ -1,6 +1,5 @@
 -- `boxes::gap::passed_along_z` meets its contract: as far along z as the best, and no clip is left.
-use mathlib.Core.Path.{_≡_, refl}
-use lib.Ieee.{binary64}
+use mathlib.Core.Path.{_≡_, refl, sym, _∙_}
 use Rattle.arith.proofs.Laws.OrderHeld.{true→T}
 use Rattle.ranges.proofs.Apart.{gap-held}
 use Rattle.ranges.proofs.Missed.{missed-z}
@@ -10,12 +9,12 @@ use borrow.Author.Needs.{needs}
 use Rattle.boxes.proofs.gap.passed_along_z.Statement.{statement}
 use Rattle.boxes.proofs.gap.passed_along_z.Tie as tie
 
-passed-along-requires : tie.Need-passed-along-requires
-passed-along-requires c κs = search needs
+misses-along-requires : tie.Need-misses-along-requires
+misses-along-requires c κs = search needs
 
 returns : tie.Need-returns
 returns c =
-    let start = c .before .before .before in
+    let start = c .before .before .before .before .before in
     λ t. passed (start .args .x) (start .args .edge)
     (record {
       a-z = true→T (start .good .0 .1 .1 .0 .1 .1 .0 .1);
@@ -25,10 +24,13 @@ returns c =
       r0 = true→T (start .good .1 .0 .1 .1 .1 .1 .0 .1);
       r1 = true→T (start .good .1 .0 .1 .1 .1 .1 .1 .0 .1);
     })
-    (start .pre) refl _
+    refl refl _
     (hopeless-z _ _ _ (gap-held _ _) (gap-held _ _) (start .good .1 .1 .1 .0 .1 .1 .0 .1 .1 .0 .1)
-    (c .passed-along .ensures t .far))
-    (missed-z _ _ _ (c .passed-along .ensures t .missed))
+    (rw (← start .pre) (c .before .if1 .taken)))
+    (missed-z _ _ _ (sym (c .misses-along .ensures) ∙ t))
+
+returns-2 : tie.Need-returns-2
+returns-2 c = λ t. absurd (true→T t)
 
 pub passed-along-z-spec : {M : Type 1} → statement M
-passed-along-z-spec = tie.close (tie.spec passed-along-requires returns)
+passed-along-z-spec = tie.close (tie.spec misses-along-requires returns returns-2)
