@@ -2,12 +2,12 @@
 mod order;
 mod vector;
 
+pub use hypot::hypot;
+pub use hypot::sqrt;
 pub use order::abs;
 pub use order::clamp;
 pub use order::infinity;
 pub use order::is_finite;
 pub use order::max;
 pub use order::min;
-pub use roots::hypot;
-pub use roots::sqrt;
 pub use vector::Vec3;

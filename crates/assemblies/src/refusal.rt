@@ -8,7 +8,7 @@ ghost use Rattle.bodies.specs.Bodies.{aloneTests};
 ghost use Rattle.assemblies.specs.Assemblies.{countTests, beforeBodies};
 use bodies::Body;
 use bodies::body_alone;
-use profile::body_refusal;
+use refusals::body_refusal;
 
 // Number 17: more than 64 bodies.
 fn count_refusal(count: usize) -> u32

@@ -5,17 +5,17 @@ ghost use Rattle.cylinders.specs.Cylinders.{told};
 ghost use Rattle.bodies.specs.Bodies.{bodyAnswer, BodyPromised, boxesOnly};
 ghost use Rattle.bodies.specs.declared.shapes.Body.the-variants as body·kinds;
 use super::shapes::Body;
-use boxes::box_distance;
+use aabb::box_distance;
 use cylinders::CountedAnswer;
 use cylinders::query_cylinder;
-use points::sphere_distance;
 use profile::Aabb;
 use profile::CollisionHit;
 use profile::Sphere;
-use profile::box_refusal;
-use profile::sphere_refusal;
+use refusals::box_refusal;
+use refusals::sphere_refusal;
 use settings::Settings;
 use settings::settings_refusal;
+use signed::sphere_distance;
 use walk::CountedHit;
 
 // This number of boxes, nothing waiting, uncut.

@@ -9,9 +9,9 @@ use bands::axis_of;
 use cylinders::own_refusal;
 use profile::Aabb;
 use profile::Sphere;
-use profile::alone_refusal;
-use profile::bounds_refusal;
-use profile::radius_refusal;
+use refusals::alone_refusal;
+use refusals::bounds_refusal;
+use refusals::radius_refusal;
 
 fn sphere_alone(b: Sphere) -> u32
     ensures { λ r. ⌜ r ≡ refusal (aloneTests (body·kinds.Sphere b)) ⌝ }

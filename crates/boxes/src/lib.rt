@@ -1,6 +1,4 @@
-// Box distance to a half-section.
-mod aabb;
+// The gap between a half-section and a box.
 mod gap;
 
-pub use aabb::box_distance;
-pub use aabb::box_distance_near;
+pub use gap::box_gap;

@@ -9,9 +9,9 @@ ghost use Rattle.builders.specs.Kept.{told, sectionAnswer, polygonAnswer
 ghost use Rattle.builders.specs.Steps.{isRepeat, pushed, pushedSpace, written, pointAt, runOf, frontKept, threeKept, numbersOf, Builds};
 use super::shapes::Kept;
 use profile::Vertex;
-use profile::any_below_axis;
-use profile::list_refusal;
 use profile::vertex_at;
+use refusals::any_below_axis;
+use refusals::list_refusal;
 
 // The last vertex that is kept, (0, 0) while there is none, and how many are.
 pub struct Run {

@@ -50,7 +50,7 @@ pub extern "C" fn jorghipa_add(
 pub extern "C" fn jorghipa_read_store(store: &[u8], record: &mut u32) -> u32
     ensures { λ r. ⌜ ReadsStore (storeAnswer (now (store .entry))) r (now («record» .entry)) (now («record» .exit)) ⌝ }
 {
-    let answer = store::read_store(store);
+    let answer = reader::read_store(store);
     match answer {
         StoreAnswer::Refused(number, k) => {
             *record = k;

@@ -62,7 +62,7 @@ pub extern "C" fn jorghipa_move(
         intervals,
     };
     let body = lists::body_at(kind, numbers, 0);
-    let answer = moves::try_move(
+    let answer = trials::try_move(
         section,
         body,
         clearance,

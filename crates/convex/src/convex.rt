@@ -13,8 +13,6 @@ ghost use Rattle.points.specs.Points.{pointDistance};
 ghost use Rattle.convex.specs.Convex.{orient, pointInConvex, convexNear, signedDistanceConvex};
 ghost use Rattle.convex.specs.Convex.{convexPenetration, properCross, anyCross, convexDistance};
 use super::gap::convex_gap;
-use points::deeper_at;
-use points::result_of;
 use profile::CollisionHit;
 use profile::Vertex;
 use profile::Witness;
@@ -26,6 +24,8 @@ use segments::BOUNDARY;
 use segments::INTERIOR;
 use segments::closer_between;
 use segments::closest_point;
+use signed::deeper_at;
+use signed::result_of;
 
 pub fn orient(a: Vertex, b: Vertex, p: Vertex) -> f64
     ensures { λ r. ⌜ r ≡ orient a b p ⌝ }

@@ -20,8 +20,8 @@ use bands::exchanged;
 use settings::Settings;
 use settings::settings_refusal;
 use walk::CountedHit;
-use walk::band_distance;
-use walk::one_box;
+use walker::band_distance;
+use walker::one_box;
 
 fn query_axial(s: &[f64], c: Cylinder) -> CountedHit
     requires { ⌜ 3 ≤ count (now s) ⌝ }

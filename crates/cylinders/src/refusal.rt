@@ -8,7 +8,7 @@ use super::shapes::CylinderCheck;
 use bands::Axis;
 use bands::Cylinder;
 use bands::axis_of;
-use profile::body_refusal;
+use refusals::body_refusal;
 
 // A negative radius, and an axis neither along nor across the spindle.
 pub fn own_refusal(radius: f64, axis: Axis) -> u32

@@ -62,7 +62,7 @@ pub fn edit_given(
             place,
             bytes: forty(bytes),
         };
-        let answer = edits::edit_store(space, size, edit);
+        let answer = store_edits::edit_store(space, size, edit);
         return give_length(answer, length_after);
     }
     12

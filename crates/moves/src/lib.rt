@@ -1,11 +1,10 @@
-// Trying a straight move: a body placed step by step beside a section, with a clearance.
+// A straight move: where a body stands at each step, and what is turned down.
 mod placement;
 mod refusal;
-mod report;
 mod shapes;
-mod trying;
 
+pub use placement::placed_at;
+pub use refusal::before_placing;
 pub use shapes::MoveAnswer;
 pub use shapes::Report;
 pub use shapes::Travel;
-pub use trying::try_move;

@@ -8,8 +8,8 @@ use super::shapes::Travel;
 use bands::axis_of;
 use bodies::Body;
 use cylinders::cylinder_refusal;
-use profile::box_refusal;
-use profile::sphere_refusal;
+use refusals::box_refusal;
+use refusals::sphere_refusal;
 use settings::Settings;
 use settings::settings_refusal;
 

@@ -14,7 +14,7 @@ use bodies::Body;
 use bodies::body_alone;
 use bodies::query_body;
 use cylinders::CountedAnswer;
-use profile::list_refusal;
+use refusals::list_refusal;
 use section::Answer;
 use section::convex_polygon_distance;
 use settings::finest;

@@ -3,8 +3,8 @@ ghost use mathlib.Core.Path.{_≡_};
 ghost use Rattle.profile.specs.Refusals.{refusal};
 ghost use Rattle.profile.specs.Steps.{orElse};
 ghost use Rattle.pairs.specs.Pairs.{oneSectionTests};
-use profile::any_below_axis;
-use profile::list_refusal;
+use refusals::any_below_axis;
+use refusals::list_refusal;
 
 // Numbers 1 to 6 of a section of 3 to 256 vertices.
 fn section_refusal(section: &[f64]) -> u32

@@ -8,8 +8,8 @@ use super::shapes::Ends;
 use super::shapes::Measured;
 use super::shapes::Piece;
 use super::shapes::Spans;
+use aabb::box_distance_near;
 use bands::RadialBand;
-use boxes::box_distance_near;
 use profile::Aabb;
 
 pub fn whole_width(b: RadialBand) -> Piece

@@ -1,12 +1,7 @@
-// The distance of a point and of a sphere to a half-section, and what bodies that overlap it share.
+// The edge of a half-section that is nearest to a point.
 mod near;
-mod overlap;
-mod points;
 
-pub use overlap::deeper_at;
-pub use overlap::deeper_inside;
-pub use overlap::result_of;
-pub use points::crosses;
-pub use points::meridian;
-pub use points::signed_distance_2d;
-pub use points::sphere_distance;
+pub use near::edge_is_surface;
+pub use near::surface_first;
+pub use near::surface_near;
+pub use near::surface_rest;

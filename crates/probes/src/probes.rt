@@ -12,15 +12,15 @@ use super::reach::unparted;
 use super::shapes::Odd;
 use super::shapes::Probes;
 use super::shapes::Reach;
-use points::crosses;
-use points::deeper_at;
-use points::deeper_inside;
 use profile::CollisionHit;
 use profile::Edge;
 use profile::Vertex;
 use profile::edge_at;
 use profile::end_at;
 use profile::vertex_at;
+use signed::crosses;
+use signed::deeper_at;
+use signed::deeper_inside;
 
 fn odd_after(p: Vertex, edge: Edge, odd: bool) -> bool
     ensures { λ r. ⌜ r ≡ unlike odd (crosses p (edge .a) (edge .b)) ⌝ }

@@ -1,7 +1,4 @@
-// A profile is a lent list of numbers, z and radius in turn: its vertices and edges, and what is
-// turned down.
-mod fine;
-mod refusal;
+// A profile is a lent list of numbers, z and radius in turn: its vertices and edges.
 mod shapes;
 mod vertices;
 
@@ -13,16 +10,6 @@ pub use shapes::Vertex;
 pub use shapes::Witness;
 
 // For the crates above.
-pub use refusal::alone_refusal;
-pub use refusal::any_below_axis;
-pub use refusal::body_refusal;
-pub use refusal::bounds_refusal;
-pub use refusal::box_refusal;
-pub use refusal::convex_refusal;
-pub use refusal::list_refusal;
-pub use refusal::point_refusal;
-pub use refusal::radius_refusal;
-pub use refusal::sphere_refusal;
 pub use vertices::edge_at;
 pub use vertices::end_at;
 pub use vertices::nearer_of;

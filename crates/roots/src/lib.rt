@@ -1,9 +1,15 @@
-// Square root and hypot, correctly rounded for every f64.
+// What square root and hypot are made of: a guess, squares in whole numbers, and the test against a half.
 mod guess;
-mod hypotenuse;
 mod midpoint;
-mod square_root;
 mod wide;
 
-pub use hypotenuse::hypot;
-pub use square_root::sqrt;
+pub use guess::guessed;
+pub use midpoint::bisect;
+pub use midpoint::nearest_of_three;
+pub use wide::Parts;
+pub use wide::Wide;
+pub use wide::in_parts;
+pub use wide::square;
+pub use wide::sum_of_squares;
+pub use wide::sum_parts;
+pub use wide::widened;

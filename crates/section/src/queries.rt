@@ -5,18 +5,18 @@ ghost use Rattle.boxes.specs.Boxes.{aabb};
 ghost use Rattle.section.specs.Answers.{told, pointAnswer, sphereAnswer, boxAnswer, convexAnswer};
 ghost use Rattle.section.specs.Demand.{Bounded, BoundedOffAxis};
 use super::shapes::Answer;
+use aabb::box_distance;
 use arith::Vec3;
-use boxes::box_distance;
 use convex::convex_distance;
-use points::meridian;
-use points::signed_distance_2d;
-use points::sphere_distance;
 use profile::Aabb;
 use profile::Sphere;
-use profile::box_refusal;
-use profile::convex_refusal;
-use profile::point_refusal;
-use profile::sphere_refusal;
+use refusals::box_refusal;
+use refusals::convex_refusal;
+use refusals::point_refusal;
+use refusals::sphere_refusal;
+use signed::meridian;
+use signed::signed_distance_2d;
+use signed::sphere_distance;
 
 pub fn signed_distance(section: &[f64], point: Vec3) -> Answer
     ensures { λ r. ⌜ (let s = now (section .entry) in Answers (told r) (pointAnswer s point) (BoundedOffAxis s)) ⌝ }

@@ -1,21 +1,16 @@
-// The store of 40-byte records, as a function on bytes.
+// The store of 40-byte records, as a function on bytes: its fields, its chain and its kinds.
 mod answers;
 mod bytes;
 mod chain;
 mod kinds;
-mod radii;
-mod reader;
-mod vertices;
 
 pub use answers::StoreAnswer;
-pub use reader::read_store;
 
-// For the crates of the listing, of loads and of the edits.
+// For the crates above.
 pub use answers::Filled;
 pub use bytes::kind_of;
 pub use bytes::next_of;
 pub use bytes::number_of;
 pub use bytes::u64_at;
-pub use reader::length_answer;
-pub use reader::read_chain;
-pub use reader::read_section;
+pub use chain::follow_chain;
+pub use kinds::kinds_answer;

@@ -1,16 +1,11 @@
-// The listing of a store, as functions on bytes.
+// The text of a listing: words, numbers and bits, put into bytes.
 mod answers;
-mod bodies;
-mod lines;
-mod listing;
 mod text;
 
 pub use answers::ListAnswer;
-pub use listing::list_input;
-pub use listing::list_store;
-pub use listing::refusal_line;
 
-// For the crate of loads.
+// For the crates above.
+pub use text::put_bits;
 pub use text::put_decimal;
 pub use text::put_hex;
 pub use text::put_word;

@@ -5,19 +5,19 @@ ghost use Rattle.bodies.specs.declared.shapes.Body.the-variants as body·kinds;
 ghost use Rattle.verdicts.specs.Verdicts.{told, collides, bodyVerdict, convexVerdict};
 use super::shapes::Verdict;
 use super::tilt::less_tilt;
+use aabb::box_distance;
 use bands::Cylinder;
 use bodies::Body;
-use boxes::box_distance;
 use convex::convex_distance;
 use cylinders::cylinder_check;
 use cylinders::cylinder_distance;
-use points::sphere_distance;
 use profile::Aabb;
 use profile::Sphere;
-use profile::box_refusal;
-use profile::convex_refusal;
-use profile::sphere_refusal;
+use refusals::box_refusal;
+use refusals::convex_refusal;
+use refusals::sphere_refusal;
 use settings::finest;
+use signed::sphere_distance;
 
 // A distance this much below the clearance is still a touch.
 const TOUCH_SLACK: f64 = 1e-9;

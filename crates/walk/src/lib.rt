@@ -1,8 +1,6 @@
-// The walk over the pieces of a cylinder across the spindle.
+// Samples inside a cylinder across the spindle, from which its walk starts.
 mod samples;
 mod shapes;
-mod walk;
 
+pub use samples::sampled;
 pub use shapes::CountedHit;
-pub use walk::band_distance;
-pub use walk::one_box;

@@ -6,11 +6,11 @@ ghost use Rattle.walk.specs.Walk as walk;
 ghost use Rattle.walk.specs.Steps.{sampleAt};
 use bands::RadialBand;
 use pieces::whole_width;
-use points::signed_distance_2d;
 use profile::CollisionHit;
 use profile::Vertex;
 use profile::Witness;
 use profile::nearer_of;
+use signed::signed_distance_2d;
 
 // At z the least, the greatest and the mean radius, against the best so far.
 fn sample_at(s: &[f64], b: RadialBand, z: f64, best: CollisionHit) -> CollisionHit

@@ -1,0 +1,13 @@
+-- `signed::distance::meridian` meets its contract.
+use borrow.Author.Needs.{needs}
+use Rattle.signed.proofs.distance.meridian.Statement.{statement}
+use Rattle.signed.proofs.distance.meridian.Tie as tie
+
+hypot-requires : tie.Need-hypot-requires
+hypot-requires c κs = search needs
+
+returns : tie.Need-returns
+returns c = rw (← c .hypot .ensures)
+
+pub meridian-spec : {M : Type 1} → statement M
+meridian-spec = tie.close (tie.spec hypot-requires returns)

@@ -1,0 +1,10 @@
+-- `walker::walker::dropped` meets its contract.
+use mathlib.Core.Path.{refl}
+use Rattle.walker.proofs.walker.dropped.Statement.{statement}
+use Rattle.walker.proofs.walker.dropped.Tie as tie
+
+returns : tie.Need-returns
+returns c = refl
+
+pub dropped-spec : {M : Type 1} → statement M
+dropped-spec = tie.close (tie.spec returns)
