@@ -1,4 +1,4 @@
--- The library's version as one number: of 1.14.2 it is 11,402.
+-- The library's version as one number: of 1.14.3 it is 11,403.
 use Prim.Native.Nat.{ℕ, _*_, _+_}
 
 abbrev pub version : ℕ → ℕ → ℕ → ℕ
