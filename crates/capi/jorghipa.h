@@ -45,7 +45,7 @@
  * Time       grows as boxes times edges. A box, or a cylinder along the spindle, is one box; a cylinder across is up to `most`,
  *            which is 8,192 where a call takes no settings; a convex body is one for each of its edges; a pair measures twice, an
  *            assembly each body, a move steps + 1 times.
- *            A walk of 8,192 boxes beside 256 edges took 13 ms on a 2-core virtual machine, a box beside them 0.003 ms, a point
+ *            A walk of 8,192 boxes beside 256 edges took 10 ms on a 2-core virtual machine, a box beside them 0.003 ms, a point
  *            0.002 ms. Most edges are passed over there. Measured one and all, they took 160 to 310 ms, 0.1 us a box and edge:
  *            reckon with that for a section of which few can be. bindings/c/costs.c measures both on yours
  *

@@ -166,7 +166,8 @@ fn gap_before(s: &[f64], x: Aabb, sides: Sides, k: usize, start: Near) -> Near
     start
 }
 
-// The edge that is tried first: nothing is known yet, so that it is not asked whether it may be passed over.
+// The edge that is tried first: nothing is known yet, so that it is not asked whether it may be passed over. Measured here
+// and not by a call, which would be 4 % of a box beside 4 vertices.
 fn first_gap(edge: Edge, x: Aabb, sides: Sides, none: CollisionHit) -> Near
     requires { ⌜ sides ≡ sidesOf x ⌝ }
     ensures { λ r. ⌜ (r .hit ≡ nearer none (edgeBox x edge)) × Legs r ⌝ }
