@@ -44,9 +44,9 @@
  *    Caps        where a cylinder leans, add 1.4143e-4 R: a verdict counts the lean of its axis and not that of its caps
  *    Below 0     never give a clearance below 0: an overlap of centimetres may be told as -1e-8, and is then clear
  *    At 0        a convex body that lies wholly in the solid, or a bar of radius 0 that passes through it, may be clear
- * bindings/c/control.c does this sum. NOT PROVED YET: this part, and what is said of a cut, is argued and measured
- * (docs/SCOPE.md). It is meant for an outline that is listed once and nowhere meets itself, whose radii are 0 or at least
- * 1/128 mm, and for bodies above the axis; docs/LIMITS.md has what is known to go wrong elsewhere.
+ * bindings/c/control.c does this sum. NOT PROVED YET: V and what is said of a cut are argued and were measured (docs/SCOPE.md),
+ * rounding and caps are argued only. It is meant for an outline that is listed once and nowhere meets itself, whose radii are 0 or
+ * at least 1/128 mm, and for bodies above the axis; docs/LIMITS.md has what is known to go wrong elsewhere.
  *
  * ---- What is promised
  * Proved for every argument, NaN and infinities too: a call ends, writes nowhere but into what it was lent, and returns 0 or the
