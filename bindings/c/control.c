@@ -3,9 +3,10 @@
 #include "jorghipa.h"
 #include <stdio.h>
 
-static const double CLEARANCE = 0.5;
-/* Settings to finish, and how far above the true distance theirs lay at most; measured, not proved (docs/SCOPE.md). */
-static const double FINISHING = 0.001, REPORTED_HIGH = 0.02;
+/* What the machine needs, and the tolerance of the second look, in mm. */
+static const double CLEARANCE = 0.5, SECOND = 0.001;
+/* What rounding may add where no magnitude is over 1,024 mm, margin's own included; the lean of a cap, for each mm of radius. */
+static const double ROUNDING = 0.00025, CAPS = 1.4143e-4;
 
 struct part { double numbers[32]; size_t count; };
 
@@ -27,37 +28,51 @@ static uint32_t build(struct part *part, const double *profile, size_t count) {
     return refused("profile", jorghipa_build_section(profile, count, part->numbers, 32, &part->count));
 }
 
-/* A verdict keeps the finest settings, where a walk is often cut and comes out low. So ask once more at finishing settings. Of a
- * drill that leans, the lean would have to be taken off too. */
+/* How much more than the true distance a walk may report, an overlap as up to so much; argued and measured, not proved yet (see
+ * jorghipa.h). Rounding is on top. */
+static double margin(double radius, double tolerance) {
+    const double wide = jorghipa_sqrt(2 * radius * tolerance), v = wide > tolerance ? wide : tolerance;
+    return (v < radius ? v : radius) + ROUNDING;
+}
+
+/* The clearance to ask for, so that a drill that is called clear has the machine's. */
+static double needed(struct drill d, double tolerance) { return CLEARANCE + margin(d.n[6], tolerance) + CAPS * d.n[6]; }
+
+/* Half of what the ends of a drill along x stand apart, seen along x. A verdict takes it off by itself, a distance does not. */
+static double lean(struct drill d) { return 0.5 * jorghipa_hypot(d.n[1] - d.n[4], d.n[2] - d.n[5]); }
+
+/* A verdict keeps the finest settings, where a walk is often cut and comes out low. So ask once more with a coarser tolerance,
+ * which needs a larger margin. */
 static int clear_after_all(const struct part *part, struct drill d) {
     double distance, z, radius;
     uint32_t edge, boxes, waiting, cut;
     const uint32_t number =
-        jorghipa_cylinder(part->numbers, part->count, d.n[0], d.n[1], d.n[2], d.n[3], d.n[4], d.n[5], d.n[6], FINISHING,
+        jorghipa_cylinder(part->numbers, part->count, d.n[0], d.n[1], d.n[2], d.n[3], d.n[4], d.n[5], d.n[6], SECOND,
                           JORGHIPA_MOST, JORGHIPA_INTERVALS, &distance, &z, &radius, &edge, &boxes, &waiting, &cut);
     if (refused("drill", number) != 0) return 0;
-    printf("  at %g mm: distance %.3f, %s, nearest to edge %u at z %g, radius %g\n", FINISHING, distance,
-           cut ? "cut" : "uncut", (unsigned)edge, z, radius);
-    return !cut && distance - REPORTED_HIGH > CLEARANCE;
+    printf("  at %g mm: distance %.3f, %s, needed %.3f; nearest to edge %u at z %g, radius %g\n", SECOND, distance,
+           cut ? "cut" : "uncut", needed(d, SECOND), (unsigned)edge, z, radius);
+    return distance - lean(d) > needed(d, SECOND);
 }
 
 static const char *judge(const struct part *part, struct drill d) {
     uint32_t collision = 1;
     const uint32_t number = jorghipa_verdict_cylinder(part->numbers, part->count, d.n[0], d.n[1], d.n[2], d.n[3], d.n[4],
-                                                      d.n[5], d.n[6], CLEARANCE, &collision);
+                                                      d.n[5], d.n[6], needed(d, JORGHIPA_TOLERANCE), &collision);
     if (refused("drill", number) != 0) return "stop";
     printf("drill at x %g: verdict %s\n", d.n[0], collision ? "collision" : "clear");
     if (!collision) return "feed";
     return clear_after_all(part, d) ? "ask the operator" : "stop";
 }
 
-/* The lamp is red unless the whole assembly was judged, and clear. */
+/* The lamp is red unless the whole assembly was judged, and clear; at the finest settings, as the verdict. */
 static int lamp_red(const struct part *part, struct drill d) {
     const uint32_t kinds[2] = {JORGHIPA_KIND_CYLINDER, JORGHIPA_KIND_BOX};
     double numbers[14] = {0, 0, 0, 0, 0, 0, 0, /* its holder */ 40, 90, 60, 120, 0, 0, 0};
     uint32_t hit = 1;
     for (int i = 0; i < 7; i++) numbers[i] = d.n[i];
-    (void)refused("lamp", jorghipa_any_hit(part->numbers, part->count, kinds, 2, numbers, 14, CLEARANCE, &hit));
+    (void)refused("lamp", jorghipa_any_hit(part->numbers, part->count, kinds, 2, numbers, 14, needed(d, JORGHIPA_TOLERANCE),
+                                           &hit));
     return hit != 0;
 }
 

@@ -10,7 +10,7 @@ int main(void) {
     const jorghipa_ball ball = {0, 0, 30, 4};
     const jorghipa_vertex wedge[3] = {{26, 0}, {30, 0}, {30, 5}};
     const jorghipa_vertex away[5] = {{-100, 0}, {-100, 10}, {-80, 10}, {-80, 0}, {-100, 0}};
-    const jorghipa_settings coarse = {0.01, 1024, 4};
+    const jorghipa_settings coarse = {0.01, 1024, 4}; /* V is 0.2 mm for this drill: see jorghipa.h */
     const jorghipa_place from = {0, 0, 10}, to = {0, 0, -10};
     jorghipa_vertex bar[4], chuck[5];
     jorghipa_body bodies[2];

@@ -15,14 +15,38 @@
  *    below 0     an overlap. Of a point or a sphere it is how deep. Of any other body IT IS NO DEPTH: the body is probed at some
  *                points alone, and -1e-8 marks an overlap that none of them measured, be it of micrometres or of centimetres.
  *                The witness is then a vertex of the section within the body, or a place where an edge enters it
+ *    0           contact; of a convex body perhaps a full overlap: corners that lie on the outline are not inside it. A section
+ *                given as its own convex body is told 0
  *    +infinity   of a point or a sphere beside a section nowhere over 1e-9 from the axis: there is no surface. The witness is
  *                the first vertex, the edge 0
  *    *cut = 1    of a cylinder across the spindle, whose walk measured its last box with a piece still due. The distance is then
- *                the least of the boxes': safe for a bar that clears, but possibly millimetres low. Common at the finest
- *                settings; jorghipa_cylinder says which avoid it
+ *                the least of the boxes'. But for rounding, a cut distance is never above the true gap, nor above 0 where the
+ *                straight bar overlaps, and at most 0.4143 times the radius below it: a cut can turn the lamp red beside a bar
+ *                that clears, but not green beside one that collides. Cuts are common at the finest settings and rarer at coarser
+ *                ones, which need more clearance: see below
  * A cylinder lies along z, x or y, and may lean a little: along z by 1.4e-4 radians, which over a metre is 0.07 mm at each end;
- * across the spindle as much towards the other axis across, and 1e-8 towards z. Its distance is that of the bar as if straight.
- * A verdict counts the lean: it takes off half of what the ends stand apart, seen along the axis. So does a move's collision.
+ * across the spindle as much towards the other axis across, and 1e-8 towards z. So give both ends of a bar across the same z:
+ * 1e-5 mm apart over 100 mm is refused with 11. Its distance is that of the bar as if straight. A verdict counts the lean: it
+ * takes off half of what the ends stand apart, seen along the axis. So does a move's collision.
+ *
+ * ---- What to add to the clearance
+ * For a cylinder across the spindle, of radius R and measured with tolerance t, let V = min(R, max(t, sqrt(2 R t))). Rounded up:
+ *              t = 1e-9    1e-4     0.001    0.01
+ *    R = 2     0.0000633   0.0200   0.0633   0.2000
+ *    R = 10    0.000142    0.0448   0.1415   0.4473
+ *    R = 50    0.000317    0.1000   0.3163   1.0000
+ * An uncut walk may report up to V more than the true distance, and a true overlap, however deep, as any value up to V. A
+ * DISTANCE BELOW V DOES NOT SAY THAT THE BAR CLEARS: a drill of radius 2 straight through a ring reads +0.0003 at t = 0.001.
+ *    Clearance   of a verdict, an assembly or a move: what the machine needs, plus V. Calls without settings have t = 1e-9
+ *    Distance    that the caller compares: take off V; of every cylinder that leans, along z too, also half of what its ends
+ *                stand apart, seen along the axis. Verdicts and a move's collision take that half off by themselves
+ *    Rounding    for every kind of body add 0.00025 mm; where a magnitude is over 1,024 mm, 1 / 2^22 of the largest
+ *    Caps        where a cylinder leans, add 1.4143e-4 R: a verdict counts the lean of its axis and not that of its caps
+ *    Below 0     never give a clearance below 0: an overlap of centimetres may be told as -1e-8, and is then clear
+ *    At 0        a convex body that lies wholly in the solid, or a bar of radius 0 that passes through it, may be clear
+ * bindings/c/control.c does this sum. NOT PROVED YET: V and what is said of a cut are argued and were measured (docs/SCOPE.md),
+ * rounding and caps are argued only. It is meant for an outline that is listed once and nowhere meets itself, whose radii are 0 or
+ * at least 1/128 mm, and for bodies above the axis; docs/LIMITS.md has what is known to go wrong elsewhere.
  *
  * ---- What is promised
  * Proved for every argument, NaN and infinities too: a call ends, writes nowhere but into what it was lent, and returns 0 or the
@@ -37,7 +61,10 @@
  * Pointers   valid for their count, aligned, and not null even at count 0. No place that is lent for writing overlaps any other
  *            place that is lent to the same call
  * Floats     rounded to nearest, subnormals kept, all traps masked, as when a program starts. With another rounding the answers
- *            differ. Most calls raise INEXACT, a cylinder whose ends a and b are the same also DIVBYZERO and INVALID
+ *            differ. Calls raise flags and clear none. Most raise INEXACT. Besides: UNDERFLOW beside coordinates such as 1e-200;
+ *            DIVBYZERO and INVALID for a cylinder whose ends a and b are the same, OVERFLOW and UNDERFLOW for one 5e-324 long;
+ *            INVALID for a lifted call whose middle is at x = y = 0. They say nothing of the answer, which holds all the same.
+ *            bindings/c/flags.c shows them
  * Machine    x86-64, ELF, the System V calling convention
  * Stack      in bytes, whatever is asked: a root or a builder 200, a point or a sphere 1,400, a box or a convex body 2,400, a
  *            cylinder, its verdict, a pair or a move 6,700, an assembly 14,100, reading a store 6,900, editing one 29,600.
@@ -53,8 +80,8 @@
  * 1 2 3 4 5 18 6 7 8 9 10 11, of which a call makes those that it names, each over all lists and numbers that it is given. So 18
  * stands between 5 and 6. 4 and 5 do not look at the settings: a tolerance of NaN is 18. A call with another order says so.
  *
- * jorghipa_records.h has the queries of a point, sphere, box and cylinder over an array of vertices, jorghipa_vertices.h the other
- * calls.
+ * jorghipa_records.h has the queries of a point, sphere, box and cylinder over an array of vertices, jorghipa_vertices.h the
+ * other calls.
  */
 #ifndef JORGHIPA_H
 #define JORGHIPA_H
@@ -84,11 +111,14 @@ uint32_t jorghipa_point(const double *section, size_t section_count, double x, d
 uint32_t jorghipa_sphere(const double *section, size_t section_count, double x, double y, double z, double radius,
                          double *distance, double *witness_z, double *witness_radius, uint32_t *edge);
 
-/* Distance of the box z0..z1, r0..r1 in (z, radius). Numbers 1 to 6, 10. */
+/* Distance of the box z0..z1, r0..r1 in (z, radius). Numbers 1 to 6, 10. What lies below the axis is not mirrored: a box at
+ * r -9..-6 reads 11 mm clear of a ring of radii 5 to 10 that it passes through. Give r0 of at least 0. */
 uint32_t jorghipa_box(const double *section, size_t section_count, double z0, double z1, double r0, double r1,
                       double *distance, double *witness_z, double *witness_radius, uint32_t *edge);
 
-/* Distance of a convex polygon in (z, radius), which may lie below the axis. Numbers 1 to 5, over both lists, and 6. */
+/* Distance of a convex polygon in (z, radius). It may lie below the axis; what lies there is not mirrored. 0 can be a full
+ * overlap. Nothing checks that it is convex: of another polygon an overlap may read clear. Numbers 1 to 5, over both lists,
+ * and 6. */
 uint32_t jorghipa_convex(const double *convex, size_t convex_count, const double *section, size_t section_count,
                          double *distance, double *witness_z, double *witness_radius, uint32_t *edge);
 
@@ -117,8 +147,8 @@ uint32_t jorghipa_build_polygon(const double *points, size_t points_count, doubl
  *    tolerance   1e-9 to 1 mm: how closely a piece's bounds must agree before it is left as it is
  *    most        1 to 8,192: the most boxes that are measured
  *    intervals   1 to 64: the intervals between samples
- * Take 0.001, 8,192, 16 to finish and 0.01, 8,192, 16 to rough: of 2,000 drills and holders none was cut, and what was reported
- * lay at most 0.02 and 0.08 mm above a dense sampling. At the finest 1,548 were cut, one of them 7.6 mm low (docs/SCOPE.md).
+ * The tolerance decides what has to be added to the clearance: V, in the head of this file. A coarser one is cut less often and
+ * faster, and needs more clearance; docs/SCOPE.md has tables. Leave `most` and `intervals` at 8,192 and 16.
  * Along the spindle, and at radius at most 1e-15, one box is measured at every setting. */
 uint32_t jorghipa_cylinder(const double *section, size_t section_count, double ax, double ay, double az, double bx,
                            double by, double bz, double radius, double tolerance, uint32_t most, uint32_t intervals,
@@ -143,9 +173,10 @@ uint32_t jorghipa_lifted_cylinder(const double *section, size_t section_count, d
                                   uint32_t *waiting, uint32_t *cut);
 
 /* *collision is 1 exactly when the judged distance + 1e-9 < clearance, else 0; set it to 1 before the call. Numbers of the query
- * without 18; 4 and 5 for the clearance. A cylinder is measured at the finest settings, so that a bar whose walk is cut may be
- * called a collision though it clears by millimetres. What is judged is the distance itself; of a cylinder, whose axis may lean
- * a little, the distance less half of
+ * without 18; 4 and 5 for the clearance. What the clearance has to be is said in the head of this file. A cylinder is measured at
+ * the finest settings, so that a bar whose walk is cut may be called a collision though it is up to 0.4143 times its radius
+ * further away than the clearance; jorghipa_move judges at others. What is judged is the distance itself; of a cylinder, whose
+ * axis may lean a little, the distance less half of
  *    hypot(ax - bx, ay - by)   along the spindle
  *    hypot(ay - by, az - bz)   across it along x
  *    hypot(ax - bx, az - bz)   across it along y */
@@ -160,7 +191,7 @@ uint32_t jorghipa_verdict_cylinder(const double *section, size_t section_count, 
                                    uint32_t *collision);
 
 /* The same verdict on a cylinder, with the counts and the mark of its walk as jorghipa_cylinder gives them: where *cut is 1, the
- * distance that was judged may be millimetres low, and a collision none. */
+ * distance that was judged may be 0.4143 times the radius low, and a collision none. */
 uint32_t jorghipa_verdict_walk(const double *section, size_t section_count, double ax, double ay, double az, double bx,
                                double by, double bz, double radius, double clearance, uint32_t *collision,
                                uint32_t *boxes, uint32_t *waiting, uint32_t *cut);
@@ -199,6 +230,10 @@ uint32_t jorghipa_pair_convex(const double *chuck, size_t chuck_count, const dou
  * settings. Along each axis the offset at step i is start + (end - start) * i / steps, with the multiplication first; it is
  * added to a sphere's centre and to both ends of a cylinder; a box's z bounds take z, its r bounds x. Kind and numbers of the
  * body are as in jorghipa_pair.
+ *
+ * The settings count for the clearance as in the head of this file: it has to be above V. Between two steps nothing is measured.
+ * A box that a step takes below the axis is not mirrored. With equal offsets, such as 0, and one step this is the verdict on
+ * the body at chosen settings, the lean counted; it is measured twice.
  *
  * *distance is the smallest of all steps, *step the first that has it. *collides is 1 where some step's judged distance
  * + 1e-9 < clearance, else 0, and *colliding_step the first such step, or 0. *boxes is the sum of all steps' boxes: a sphere

@@ -5,12 +5,12 @@
 
 /* 1.0 is the base; each change request of the scope that landed is one minor version. CHANGELOG.md says what a program that
  * links the library has to change for each. */
-#define JORGHIPA_VERSION "1.14.3"
+#define JORGHIPA_VERSION "1.14.4"
 #define JORGHIPA_VERSION_MAJOR 1
 #define JORGHIPA_VERSION_MINOR 14
-#define JORGHIPA_VERSION_PATCH 3
+#define JORGHIPA_VERSION_PATCH 4
 /* 10,000 major + 100 minor + patch. */
-#define JORGHIPA_VERSION_NUMBER 11403
+#define JORGHIPA_VERSION_NUMBER 11404
 
 /* What a call returns: 0, or the number of the first test that is true, of those that it makes and in its own order. */
 enum jorghipa_refusal {

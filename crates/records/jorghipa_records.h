@@ -13,9 +13,10 @@
  *
  * A distance is negative inside, 0 on contact; the witness is a point of the section, and edge k, which supplied it, starts at
  * vertex k, counted from 0. A negative distance is no depth but of a point or a sphere: -1e-8 marks an overlap that no probe
- * measured. At +infinity, for a point or a sphere, the section is nowhere over 1e-9 from the axis. Where cut is true the
- * distance is safe for a bar that clears, but possibly millimetres low; jorghipa_cylinder of jorghipa.h has settings that avoid
- * it. A bar may lean a little, and is measured as if straight. jorghipa.h says all this in full.
+ * measured. At +infinity, for a point or a sphere, the section is nowhere over 1e-9 from the axis. Where cut is true, the
+ * distance may be 0.4143 times the radius low. Where it is not, it may be high: a distance below V does not say that a bar across
+ * clears. V is that of jorghipa.h at tolerance 1e-9, and READ THERE WHAT TO ADD TO A CLEARANCE. A bar may lean a little, and is
+ * measured as if straight. Bounds below the axis are not mirrored. jorghipa.h says all this in full.
  *
  * ---- What is promised
  * Proved for every argument, NaN and infinities too: a call ends, writes nowhere but into its reply, and that is the one that
@@ -24,7 +25,7 @@
  *
  * ---- What is needed, and nothing checks
  * Pointers   valid for their count, aligned, and not null even at count 0
- * Floats     rounded to nearest, subnormals kept, all traps masked; a bar whose ends are the same raises DIVBYZERO and INVALID
+ * Floats     rounded to nearest, subnormals kept, all traps masked; which flags are raised is said in jorghipa.h
  * Machine    x86-64, ELF, the System V calling convention
  * Stack      in bytes, whatever is asked: a point or a sphere 5,400, a box 6,700, a bar 9,600; the vertices are copied there
  * Time       that of the query of jorghipa.h

@@ -2,7 +2,8 @@
  * an array of vertices, and bodies are records, so that nobody counts numbers.
  *
  * These are jorghipa.h's calls, each handing the vertices on as the numbers that they are: what those promise holds here. The
- * lines that do so are C and not proved. They need libcapi.a, and nothing of librecords.a.
+ * lines that do so are C and not proved. They need libcapi.a, and nothing of librecords.a. What has to be added to a clearance,
+ * jorghipa.h says in its head.
  *
  * The number of a reply is 0, or jorghipa.h's; a count of vertices is never odd. Where it is not 0, every other field is 0, but
  * `collision` and `collides` are 1: a refusal that goes unnoticed stops the machine.

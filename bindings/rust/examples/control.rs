@@ -3,38 +3,56 @@
 
 use jorghipa::{Aabb, Body, Cylinder, Hit, Point, Refusal, Section, Settings, Vertex, pair};
 
+/// What the machine needs, in mm.
 const CLEARANCE: f64 = 0.5;
-/// To finish; and how far above the true distance these settings lay at most, which is measured, not proved (docs/SCOPE.md).
-const FINISHING: Settings = Settings { tolerance: 0.001, ..Settings::FINEST };
-const REPORTED_HIGH: f64 = 0.02;
+/// The settings of the second look.
+const SECOND: Settings = Settings { tolerance: 0.001, ..Settings::FINEST };
+/// What rounding may add where no magnitude is over 1,024 mm, `margin`'s own included.
+const ROUNDING: f64 = 0.00025;
+/// The lean of a cap, for each mm of radius.
+const CAPS: f64 = 1.4143e-4;
 
 /// A drill of radius 5 along x, its tip at x; its shank may lean towards z.
 fn drill(x: f64, z: f64, lean: f64) -> Cylinder {
     Cylinder { a: Point { x, y: 15.0, z }, b: Point { x: 80.0, y: 15.0, z: z + lean }, radius: 5.0 }
 }
 
+/// How much more than the true distance a walk may report, an overlap as up to so much; argued and measured, not proved yet
+/// (docs/SCOPE.md). Rounding is on top.
+fn margin(radius: f64, tolerance: f64) -> f64 {
+    tolerance.max((2.0 * radius * tolerance).sqrt()).min(radius) + ROUNDING
+}
+
+/// The clearance to ask for, so that a drill that is called clear has the machine's.
+fn needed(drill: Cylinder, settings: Settings) -> f64 {
+    CLEARANCE + margin(drill.radius, settings.tolerance) + CAPS * drill.radius
+}
+
+/// Half of what the ends of a drill along x stand apart, seen along x. A verdict takes it off by itself, a distance does not.
+fn lean(drill: Cylinder) -> f64 {
+    0.5 * jorghipa::hypot(drill.a.y - drill.b.y, drill.a.z - drill.b.z)
+}
+
 /// What the control does next. A verdict keeps the finest settings, where a walk is often cut and comes out low; so it asks once
-/// more at finishing settings. Of a drill that leans, the lean would have to be taken off too.
+/// more with a coarser tolerance, which needs a larger margin.
 fn judge(work: &Section, drill: Cylinder) -> Result<&'static str, Refusal> {
-    let collision = work.verdict_cylinder(drill, CLEARANCE)?;
+    let collision = work.verdict_cylinder(drill, needed(drill, Settings::FINEST))?;
     println!("drill at x {}: verdict {}", drill.a.x, if collision { "collision" } else { "clear" });
     if !collision {
         return Ok("feed");
     }
-    let walk = work.cylinder(drill, FINISHING)?;
+    let walk = work.cylinder(drill, SECOND)?;
     let Hit { distance, witness_z, witness_radius, edge } = walk.hit;
-    let cut = if walk.cut { "cut" } else { "uncut" };
-    let tolerance = FINISHING.tolerance;
-    println!(
-        "  at {tolerance} mm: distance {distance:.3}, {cut}, nearest to edge {edge} at z {witness_z}, radius {witness_radius:.3}"
-    );
-    Ok(if !walk.cut && distance - REPORTED_HIGH > CLEARANCE { "ask the operator" } else { "stop" })
+    let (cut, tolerance, needed) = (if walk.cut { "cut" } else { "uncut" }, SECOND.tolerance, needed(drill, SECOND));
+    println!("  at {tolerance} mm: distance {distance:.3}, {cut}, needed {needed:.3}");
+    println!("  nearest to edge {edge} at z {witness_z}, radius {witness_radius:.3}");
+    Ok(if distance - lean(drill) > needed { "ask the operator" } else { "stop" })
 }
 
-/// The lamp is red unless the whole assembly was judged, and clear.
+/// The lamp is red unless the whole assembly was judged, and clear; at the finest settings, as the verdict.
 fn lamp(work: &Section, drill: Cylinder) -> &'static str {
     let holder = Body::Box(Aabb { z0: 40.0, z1: 90.0, r0: 60.0, r1: 120.0 });
-    match work.any_hit(&[drill.into(), holder], CLEARANCE) {
+    match work.any_hit(&[drill.into(), holder], needed(drill, Settings::FINEST)) {
         Ok(false) => "green",
         Ok(true) | Err(_) => "red",
     }

@@ -33,7 +33,8 @@ pub struct Hit {
 ///
 /// A cylinder along the spindle is one box. Across it the cylinder is walked in pieces, and witness and edge are those of the
 /// best distance seen. A walk is cut where a piece is still due after the most boxes of its settings: then the distance is
-/// the least of the boxes', safe but possibly millimetres low, and witness and edge still those of the best seen.
+/// the least of the boxes', perhaps 0.4143 times the radius low, and witness and edge still those of the best seen. Uncut, it may
+/// be high, by what [`crate::Settings`] says.
 #[derive(Clone, Copy, Debug, PartialEq)]
 pub struct CylinderHit {
     /// Distance, witness and edge.

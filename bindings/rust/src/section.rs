@@ -74,17 +74,19 @@ impl Section {
         bare::sphere(self.numbers(), sphere)
     }
 
-    /// Distance of a box. Refusals 4, 5 and 10.
+    /// Distance of a box. What lies below the axis is not mirrored: give `r0` of at least 0. Refusals 4, 5 and 10.
     pub fn aabb(&self, bounds: Aabb) -> Result<Hit, Refusal> {
         bare::aabb(self.numbers(), bounds)
     }
 
-    /// Distance of a convex polygon, which may lie below the axis. Refusals 2 to 5.
+    /// Distance of a convex polygon, which may lie below the axis; what lies there is not mirrored. 0 can be a full overlap.
+    /// Refusals 2 to 5.
     pub fn convex(&self, convex: &[Vertex]) -> Result<Hit, Refusal> {
         bare::convex(flat(convex), self.numbers())
     }
 
-    /// Distance of a cylinder. Refusals 4, 5, 18, 9 and 11, tested in this order.
+    /// Distance of a cylinder. Refusals 4, 5, 18, 9 and 11, tested in this order. Across the spindle it may be higher than the true
+    /// one: [`Settings`] says by how much.
     ///
     /// ```
     /// use jorghipa::{Cylinder, Point, Refusal, Section, Settings, Vertex};
@@ -139,7 +141,8 @@ impl Section {
     }
 
     /// Whether a cylinder comes closer than the clearance, at the finest settings, judged by its distance less half of how far
-    /// its ends stand apart across its axis. Refusals 4, 5, 9 and 11.
+    /// its ends stand apart across its axis. The clearance has to have V on top, see [`Settings`]. The lean of the caps, up to
+    /// 1.4143e-4 times the radius, is not counted. Refusals 4, 5, 9 and 11.
     pub fn verdict_cylinder(&self, cylinder: Cylinder, clearance: f64) -> Result<bool, Refusal> {
         bare::verdict_cylinder(self.numbers(), cylinder, clearance)
     }
@@ -149,7 +152,8 @@ impl Section {
         bare::verdict_walk(self.numbers(), cylinder, clearance)
     }
 
-    /// Whether a convex polygon comes closer than the clearance. Refusals 2 to 5.
+    /// Whether a convex polygon comes closer than the clearance. At a clearance of 0 one that lies wholly in the solid may be clear.
+    /// Refusals 2 to 5.
     pub fn verdict_convex(&self, convex: &[Vertex], clearance: f64) -> Result<bool, Refusal> {
         bare::verdict_convex(flat(convex), self.numbers(), clearance)
     }
@@ -172,7 +176,10 @@ impl Section {
         bare::any_hit(self.numbers(), bodies, clearance)
     }
 
-    /// Tries a move. Refusals 4, 5, 18, 9, 10 and 11 over body, clearance, offsets and settings; 19 for no step or more than
+    /// Tries a move. The clearance of a cylinder across has to have V at these settings on top, see [`Settings`]. Between two steps
+    /// nothing is measured. With equal offsets and one step this is the verdict on the body at chosen settings, its lean counted.
+    ///
+    /// Refusals 4, 5, 18, 9, 10 and 11 over body, clearance, offsets and settings; 19 for no step or more than
     /// 4,096; then of the first refused placement 4, 5, 9, 10 or 11.
     ///
     /// ```

@@ -1,9 +1,10 @@
 //! The view as JSON, for other programs. A number that JSON does not have, a NaN or an infinity, is null.
 
 use crate::moving::Tried;
+use crate::verdict::{Judged, Verdict};
 use crate::warnings::Warning;
-use crate::{MARK, Row, View, kind};
-use jorghipa::{Hit, Refusal};
+use crate::{Row, View, kind};
+use jorghipa::Refusal;
 
 /// One object, in one line.
 pub fn json(view: &View) -> String {
@@ -19,6 +20,7 @@ pub fn json(view: &View) -> String {
     object(&[
         ("store", text(&view.name)),
         ("version", text(jorghipa::VERSION)),
+        ("clearance", number(view.clearance)),
         ("accepted", refused.is_none().to_string()),
         ("refusal", refusal),
         ("records", view.store.records.len().to_string()),
@@ -39,16 +41,33 @@ fn body(Row { record, body, answer }: &Row) -> String {
         ("accepted", answer.is_ok().to_string()),
     ];
     let told = match answer {
-        Ok(Hit { distance, witness_z, witness_radius, edge }) => vec![
-            ("distance", number(*distance)),
-            ("nothing_to_hit", distance.is_infinite().to_string()),
-            ("overlap_not_measured", (*distance == MARK).to_string()),
-            ("witness", object(&[("z", number(*witness_z)), ("radius", number(*witness_radius))])),
-            ("edge", edge.to_string()),
-        ],
+        Ok(told) => {
+            let hit = told.hit;
+            let witness = object(&[("z", number(hit.witness_z)), ("radius", number(hit.witness_radius))]);
+            [&judged(told)[..], &[("witness", witness), ("edge", hit.edge.to_string())]].concat()
+        }
         Err(refusal) => vec![("refusal", object(&refusal_fields(*refusal)))],
     };
     object(&[&given[..], &told].concat())
+}
+
+/// The verdict, and what was measured: an overlap has no distance, and only a sphere's centre a depth.
+fn judged(told: &Judged) -> [(&'static str, String); 5] {
+    let verdict = match told.verdict {
+        Verdict::Clear => "clear",
+        Verdict::Near => "too-near",
+        Verdict::Overlap => "overlap",
+        Verdict::Nothing => "nothing-to-hit",
+    };
+    let collision = matches!(told.verdict, Verdict::Near | Verdict::Overlap);
+    let maybe = |x: Option<f64>| x.map_or("null".into(), number);
+    [
+        ("verdict", text(verdict)),
+        ("collision", collision.to_string()),
+        ("distance", maybe(told.gap())),
+        ("centre_depth", maybe(told.depth.map(|depth| depth.centre))),
+        ("depth_at_most", maybe(told.depth.map(|depth| depth.most))),
+    ]
 }
 
 fn refusal_fields(refusal: Refusal) -> [(&'static str, String); 3] {
@@ -63,16 +82,16 @@ fn tried(tried: &Tried) -> String {
         ("start", point(travel.start)),
         ("end", point(travel.end)),
         ("steps", travel.steps.to_string()),
-        ("clearance", number(tried.asked.clearance)),
+        ("clearance", number(tried.clearance)),
         ("accepted", tried.report.is_ok().to_string()),
     ];
-    let told = match &tried.report {
-        Ok(report) => vec![
-            ("distance", number(report.distance)),
-            ("step", report.step.to_string()),
-            ("colliding_step", report.colliding_step.map_or("null".into(), |step| step.to_string())),
-        ],
-        Err(refusal) => vec![("refusal", object(&refusal_fields(*refusal)))],
+    let told = match (&tried.report, &tried.nearest) {
+        (Ok(report), Ok(nearest)) => {
+            let colliding = report.colliding_step.map_or("null".into(), |step| step.to_string());
+            let steps = [("step", report.step.to_string()), ("colliding_step", colliding)];
+            [&judged(nearest)[..], &steps].concat()
+        }
+        (Err(refusal), _) | (_, Err(refusal)) => vec![("refusal", object(&refusal_fields(*refusal)))],
     };
     object(&[&given[..], &told].concat())
 }
@@ -129,15 +148,37 @@ mod tests {
 
     #[test]
     fn the_example_and_a_refused_one() {
-        let told = json(&View::new("a\"b", &samples::bodies(), None).unwrap());
+        let told = json(&View::new("a\"b", &samples::bodies(), 1.0, None).unwrap());
         assert!(told.starts_with("{\"store\":\"a\\\"b\",\"version\":\""));
-        assert!(told.contains("\"accepted\":true,\"refusal\":null,\"records\":13,\"unreached\":[],"));
-        let six = "{\"record\":6,\"kind\":\"box\",\"numbers\":[25.0,30.0,0.0,5.0],\"accepted\":true,\"distance\":5.0,\
-                   \"nothing_to_hit\":false,\"overlap_not_measured\":false,\"witness\":{\"z\":20.0,\"radius\":0.0},\"edge\":1}";
+        assert!(told.contains("\"clearance\":1.0,\"accepted\":true,\"refusal\":null,\"records\":13,\"unreached\":[],"));
+        let six = "{\"record\":6,\"kind\":\"box\",\"numbers\":[25.0,30.0,0.0,5.0],\"accepted\":true,\"verdict\":\"clear\",\
+                   \"collision\":false,\"distance\":5.0,\"centre_depth\":null,\"depth_at_most\":null,\
+                   \"witness\":{\"z\":20.0,\"radius\":0.0},\"edge\":1}";
         assert!(told.contains(six), "{told}");
-        let told = json(&View::new("x", &samples::bodies()[..41], None).unwrap());
+        let told = json(&View::new("x", &samples::bodies()[..41], 1.0, None).unwrap());
         assert!(told.contains("\"accepted\":false,\"refusal\":{\"number\":12,"));
         assert!(told.contains("\"told_record\":0,\"record\":null,\"look\":\"the file has 41 bytes"));
         assert!(told.ends_with("\"vertices\":[],\"bodies\":[],\"move\":null,\"warnings\":[]}"));
+    }
+
+    /// The same box at three clearances, and overlaps: a box's has no number, a sphere's a depth of its centre.
+    #[test]
+    fn clearances_and_overlaps() {
+        let s = [[0.0, 10.0], [20.0, 10.0], [20.0, 0.0], [0.0, 0.0]];
+        let told = |body, clearance| json(&View::new("x", &samples::store(&s, &[body]), clearance, None).unwrap());
+        let holder = (3, [25.0, 30.0, 0.0, 5.0]);
+        for (clearance, verdict) in [(4.9, "clear"), (5.0, "clear"), (5.1, "too-near")] {
+            let text = told(holder, clearance);
+            assert!(
+                text.contains(&format!("\"verdict\":\"{verdict}\"")) && text.contains("\"distance\":5.0"),
+                "{text}"
+            );
+        }
+        for inside in [[-5.0, 25.0, 5.0, 15.0], [5.0, 15.0, 2.0, 8.0]] {
+            let text = told((3, inside), 1.0);
+            assert!(text.contains("\"overlap\",\"collision\":true,\"distance\":null,\"centre_depth\":null,"), "{text}");
+        }
+        let text = told((2, [0.0, 0.0, 10.0, 4.0]), 1.0);
+        assert!(text.contains("\"distance\":null,\"centre_depth\":10.0,\"depth_at_most\":14.0"), "{text}");
     }
 }

@@ -5,12 +5,13 @@ use std::fs::File;
 use std::io::{Read, Write};
 use std::path::{Path, PathBuf};
 use std::process::ExitCode;
-use view::{View, json, moving, picture, table};
+use view::{View, json, moving, picture, table, verdict};
 
-const USAGE: &str = "usage: view STORE [--json] [--svg FILE] [--move RECORD:X,Y,Z:X,Y,Z:STEPS] [--clearance MM]
+const USAGE: &str = "usage: view STORE [--json] [--svg FILE] [--clearance MM] [--move RECORD:X,Y,Z:X,Y,Z:STEPS]
 Shows the store in the file STORE, or on standard input for -, as a table, or with --json as JSON. --svg draws it into FILE.
---move tries a move of the body in RECORD between two offsets, and draws it; it may come as near as --clearance (1 unless given).
-Exit code 0: all is accepted. 1: the store is refused. 3: a body of it or the move is refused.
+A body is called clear only at --clearance or farther away: 1 mm unless given, in table, picture, JSON and move; over 1e-9.
+--move tries a move of the body in RECORD between two offsets, and draws it.
+Exit code 0: all is accepted, clear or not. 1: the store is refused. 3: a body of it or the move is refused.
 2: the call is wrong, or something cannot be read or written.";
 
 /// Some fifty times the largest store.
@@ -71,12 +72,12 @@ fn write_picture(store: &Path, name: &Path, svg: &str) -> Result<(), String> {
 
 fn run(options: Options) -> Result<ExitCode, String> {
     let store = PathBuf::from(options.store.ok_or("no store is named")?);
-    let clearance = options.clearance.unwrap_or(1.0);
+    let clearance = options.clearance.unwrap_or(verdict::CLEARANCE);
     let asked = match &options.travel {
-        Some(word) => Some(moving::parse(word, clearance).ok_or(format!("{word} is no move"))?),
+        Some(word) => Some(moving::parse(word).ok_or(format!("{word} is no move"))?),
         None => None,
     };
-    let view = View::new(&store.display().to_string(), &read(&store)?, asked)?;
+    let view = View::new(&store.display().to_string(), &read(&store)?, clearance, asked)?;
     if let Some(name) = options.svg.map(PathBuf::from) {
         match picture::picture(&view) {
             Some(svg) => write_picture(&store, &name, &svg)?,

@@ -55,6 +55,10 @@ fn wrong_calls() {
         &[GOOD, "--move", "5"],
         &[GOOD, "--move", "4:0,0,0:0,0,0:1"],
         &[GOOD, "--clearance", "x"],
+        &[GOOD, "--clearance", "0"],
+        &[GOOD, "--clearance", "1e-9"],
+        &[GOOD, "--clearance", "-1"],
+        &[GOOD, "--clearance", "nan"],
         &["no-such-file.store"],
         &["/"],
     ] {
@@ -62,7 +66,10 @@ fn wrong_calls() {
         assert_eq!((code, text.as_str(), errors.starts_with("view: ")), (Some(2), "", true), "{words:?}");
     }
     let (code, text, _) = told(&["--help"]);
-    assert_eq!((code, text.starts_with("usage: view STORE")), (Some(0), true));
+    assert_eq!(
+        (code, text.starts_with("usage: view STORE"), text.contains("1 mm unless given")),
+        (Some(0), true, true)
+    );
     assert_eq!(told(&[file("long.store", &vec![0; (1 << 20) + 1]).to_str().unwrap()]).0, Some(2));
     assert_eq!(told(&[file("many.store", &vec![0; 1 << 20]).to_str().unwrap()]).0, Some(1));
 }
@@ -99,4 +106,34 @@ fn pictures_and_standard_input() {
     let output = child.wait_with_output().unwrap();
     assert_eq!(output.status.code(), Some(0));
     assert!(output.stdout.starts_with(b"{\"store\":\"-\","));
+}
+
+/// Box 6 stands 5 mm away: table, JSON and picture call it clear at 5 mm and not at 5.1; the default is 1.
+#[test]
+fn one_clearance_for_all() {
+    let path = Path::new(env!("CARGO_TARGET_TMPDIR")).join("clearance.svg");
+    let drawn = |words: &[&str]| {
+        let words = [&[GOOD, "--svg", path.to_str().unwrap()], words].concat();
+        (told(&words).1, fs::read_to_string(&path).unwrap())
+    };
+    let six =
+        |json: &str| json.split("\"record\":6,").nth(1).unwrap().split("\"distance\"").next().unwrap().to_string();
+    for (words, clear, number) in
+        [(&[][..], true, "1"), (&["--clearance", "5"], true, "5"), (&["--clearance", "5.1"], false, "5.1")]
+    {
+        let (table, svg) = drawn(words);
+        let line = table.lines().find(|line| line.starts_with("     6  box")).unwrap();
+        let said = if clear { format!("clear of {number} mm") } else { format!("under {number} mm") };
+        assert!(line.contains(&said), "{line}");
+        assert!(svg.contains(&format!("clear: {number} mm away or more")) && svg.contains("1 mm unless given"));
+        let json = told(&[&[GOOD, "--json"], words].concat()).1;
+        assert!(six(&json).contains(if clear {
+            "\"clear\",\"collision\":false"
+        } else {
+            "\"too-near\",\"collision\":true"
+        }));
+        assert!(
+            !json.contains("-1e-8") && !json.contains("-1e-08") && !table.contains("-1e-8") && !svg.contains("-1e-8")
+        );
+    }
 }

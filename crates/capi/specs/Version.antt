@@ -1,4 +1,4 @@
--- The library's version as one number: of 1.14.3 it is 11,403.
+-- The library's version as one number: of 1.14.4 it is 11,404.
 use Prim.Native.Nat.{ℕ, _*_, _+_}
 
 abbrev pub version : ℕ → ℕ → ℕ → ℕ

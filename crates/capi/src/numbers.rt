@@ -6,9 +6,9 @@ ghost use Rattle.capi.specs.Version.{version};
 
 #[no_mangle]
 pub extern "C" fn jorghipa_version() -> u32
-    ensures { λ r. ⌜ r ≡ version 1 14 3 ⌝ }
+    ensures { λ r. ⌜ r ≡ version 1 14 4 ⌝ }
 {
-    11403
+    11404
 }
 
 #[no_mangle]

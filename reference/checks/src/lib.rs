@@ -2,6 +2,7 @@
 
 pub mod answer;
 pub mod assembly;
+pub mod bars;
 pub mod edits;
 pub mod fixed;
 pub mod generate;
@@ -19,6 +20,7 @@ pub mod scenes;
 pub mod shrink;
 pub mod symmetry;
 pub mod timing;
+pub mod truth;
 pub mod walk;
 
 pub use random;

@@ -84,3 +84,21 @@ pub fn over<'a, T, R>(inputs: &'a [T], mut call: impl FnMut(&'a T) -> R + 'a) ->
         inputs.len()
     })
 }
+
+/// The seconds that the processor has spent on this process, whatever other programs run; of Linux.
+pub fn processor_time() -> f64 {
+    #[repr(C)]
+    struct Time {
+        seconds: i64,
+        nanoseconds: i64,
+    }
+    unsafe extern "C" {
+        fn clock_gettime(clock: i32, time: *mut Time) -> i32;
+    }
+    const OF_PROCESS: i32 = 2;
+    let mut time = Time { seconds: 0, nanoseconds: 0 };
+    // SAFETY: the place is a timespec of x86-64 Linux, and lives through the call.
+    let failed = unsafe { clock_gettime(OF_PROCESS, &mut time) };
+    assert_eq!(failed, 0, "no clock");
+    time.seconds as f64 + time.nanoseconds as f64 * 1e-9
+}

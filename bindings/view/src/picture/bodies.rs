@@ -5,17 +5,33 @@ use super::frame::{Extent, Frame};
 use super::labels::{Labels, around, beside, extent};
 use crate::moving::{Tried, placed};
 use crate::table::stands;
-use crate::{MARK, Row, distance, kind, mm, said};
-use jorghipa::{Aabb, Body, Hit, Section};
+use crate::verdict::{self, Judged, Verdict};
+use crate::{Row, kind, mm};
+use jorghipa::{Aabb, Body, Section};
 
 const SIZE: f64 = 13.0;
 
-/// The class by what the library says: clear, touching or overlapping, refused.
+/// The class of a verdict.
+fn judged_class(verdict: Verdict) -> &'static str {
+    match verdict {
+        Verdict::Clear => "clear",
+        Verdict::Near => "near",
+        Verdict::Overlap => "hit",
+        Verdict::Nothing => "nothing",
+    }
+}
+
 fn class(row: &Row) -> &'static str {
-    match row.answer {
-        Ok(hit) if hit.distance > 0.0 => "clear",
-        Ok(_) => "hit",
-        Err(_) => "refused",
+    row.answer.map_or("refused", |told| judged_class(told.verdict))
+}
+
+/// A gap, or that there is none, in full.
+fn answered(told: &Judged) -> String {
+    match (told.gap(), told.depth) {
+        (Some(gap), _) => format!("distance {gap} mm"),
+        (_, Some(depth)) => format!("overlaps, {}", verdict::depth_words(depth)),
+        _ if told.verdict == Verdict::Nothing => "nothing to hit".into(),
+        _ => "overlaps".into(),
     }
 }
 
@@ -52,14 +68,14 @@ fn nearest(frame: &Frame, body: Body, witness: At) -> At {
 }
 
 /// A line from the witness to the body, and the distance beside it.
-fn distance_line(canvas: &mut Canvas, labels: &mut Labels, frame: &Frame, body: Body, hit: Hit, class: &str) {
+fn distance_line(canvas: &mut Canvas, labels: &mut Labels, frame: &Frame, body: Body, told: &Judged) {
+    let (hit, class) = (told.hit, judged_class(told.verdict));
     let witness = (frame.x(hit.witness_z), frame.y(hit.witness_radius));
     let end = nearest(frame, body, witness);
-    let told =
-        format!("{} mm from edge {}, at z {}, radius {}", hit.distance, hit.edge, hit.witness_z, hit.witness_radius);
-    canvas.line(&format!("line {class}"), witness, end, &told);
-    canvas.circle(&format!("dot {class}"), witness, 3.0, &told);
-    let text = if hit.distance == MARK { "overlap".into() } else { short(hit.distance) };
+    let hint = format!("{}; edge {}, at z {}, radius {}", answered(told), hit.edge, hit.witness_z, hit.witness_radius);
+    canvas.line(&format!("line {class}"), witness, end, &hint);
+    canvas.circle(&format!("dot {class}"), witness, 3.0, &hint);
+    let text = told.gap().map_or("overlaps".into(), short);
     let (dx, dy) = (end.0 - witness.0, end.1 - witness.1);
     let length = dx.hypot(dy);
     let places = if length < 1.0 {
@@ -93,8 +109,8 @@ fn named(canvas: &mut Canvas, labels: &mut Labels, frame: &Frame, body: Body, cl
 /// The outlines of all bodies that are near enough.
 pub fn draw(canvas: &mut Canvas, frame: &Frame, rows: &[&Row]) {
     for row in rows {
-        let answer = row.answer.map_or_else(|refusal| refusal.to_string(), |hit| said(hit.distance));
-        let told = format!("record {}, {}: {}; distance {answer}", row.record, kind(row.body), stands(row.body));
+        let answer = row.answer.map_or_else(|refusal| refusal.to_string(), |told| answered(&told));
+        let told = format!("record {}, {}: {}; {answer}", row.record, kind(row.body), stands(row.body));
         shape(canvas, frame, row.body, &format!("body {}", class(row)), &told);
     }
 }
@@ -105,44 +121,59 @@ pub fn label(canvas: &mut Canvas, labels: &mut Labels, frame: &Frame, rows: &[&R
         named(canvas, labels, frame, row.body, class(row), &row.record.to_string());
     }
     for row in rows {
-        if let Some(hit) = row.answer.ok().filter(|hit| hit.distance.is_finite()) {
-            distance_line(canvas, labels, frame, row.body, hit, class(row));
+        if let Some(told) = row.answer.ok().filter(|told| told.verdict != Verdict::Nothing) {
+            distance_line(canvas, labels, frame, row.body, &told);
         }
     }
 }
 
-/// The steps of a move that are drawn, each with its class and name; the nearest comes last.
-pub fn stops(tried: &Tried) -> Vec<(Body, &'static str, String)> {
+/// A step of a move that is drawn.
+pub struct Stop {
+    pub body: Body,
+    class: &'static str,
+    name: String,
+    told: Judged,
+}
+
+/// The steps that are drawn: the start, the first that is too near, and the nearest, which comes last.
+pub fn stops(section: &Section, tried: &Tried) -> Vec<Stop> {
     let Ok(report) = tried.report else { return Vec::new() };
-    let at = |step| placed(tried.body, tried.asked.travel, step);
-    let mut stops = vec![(at(0), "start", "start".to_string())];
-    let nearest = report.step;
-    match report.colliding_step {
-        Some(step) if step == nearest => {
-            stops.push((at(step), "collision", format!("too near, and nearest: step {step}")))
-        }
-        colliding => {
-            stops.extend(colliding.map(|step| (at(step), "collision", format!("too near from step {step}"))));
-            stops.push((at(nearest), "nearest", format!("nearest: step {nearest}")));
-        }
-    }
-    stops
+    let stop = |step: u32, class: Option<&'static str>, name: &dyn Fn(Verdict) -> String| {
+        let body = placed(tried.body, tried.asked.travel, step);
+        let told = verdict::judged(section, body, tried.clearance).ok()?;
+        Some(Stop { body, class: class.unwrap_or(judged_class(told.verdict)), name: name(told.verdict), told })
+    };
+    let (nearest, first) = (report.step, report.colliding_step);
+    let start = stop(0, Some("start"), &|_| "start".into());
+    let colliding = first.filter(|step| *step != nearest).and_then(|step| {
+        stop(step, None, &|verdict| match verdict {
+            Verdict::Overlap => format!("overlaps from step {step}"),
+            _ => format!("too near from step {step}"),
+        })
+    });
+    let last = stop(nearest, None, &|verdict| match (verdict, first == Some(nearest)) {
+        (Verdict::Overlap, true) => format!("overlaps from step {nearest}"),
+        (Verdict::Overlap, false) => format!("overlaps: step {nearest}"),
+        (_, true) => format!("too near, and nearest: step {nearest}"),
+        (_, false) => format!("nearest: step {nearest}"),
+    });
+    start.into_iter().chain(colliding).chain(last).collect()
 }
 
-/// The body at the start, at the nearest step and at the first colliding one, and the way of its middle.
+/// The body at those steps, and the way of its middle.
 pub fn draw_move(canvas: &mut Canvas, labels: &mut Labels, frame: &Frame, section: &Section, tried: &Tried) {
-    let (travel, stops) = (tried.asked.travel, stops(tried));
-    let Some((last, last_class, _)) = stops.last() else { return };
+    let (travel, stops) = (tried.asked.travel, stops(section, tried));
+    let Some(last) = stops.last() else { return };
     let parts = travel.steps.min(64);
     let step = |k: u32| (u64::from(k) * u64::from(travel.steps) / u64::from(parts)) as u32;
     let way: Vec<At> = (0..=parts).map(|k| middle(frame, placed(tried.body, travel, step(k)))).collect();
     canvas.path("way", &way, "");
-    for (body, class, name) in &stops {
+    for Stop { body, class, name, .. } in &stops {
         shape(canvas, frame, *body, &format!("body {class}"), name);
         let text = format!("{}: {name}", tried.asked.record);
         named(canvas, labels, frame, *body, class, &text);
     }
-    if let Some(hit) = distance(section, *last).ok().filter(|hit| hit.distance.is_finite()) {
-        distance_line(canvas, labels, frame, *last, hit, last_class);
+    if last.told.verdict != Verdict::Nothing {
+        distance_line(canvas, labels, frame, last.body, &last.told);
     }
 }

@@ -4,6 +4,7 @@ mod bodies;
 mod canvas;
 mod frame;
 mod labels;
+mod legend;
 mod numbers;
 
 use crate::{Row, View, table};
@@ -20,12 +21,12 @@ const STYLE: &str = "text{font-family:sans-serif;text-anchor:middle;fill:#333}\
 .edge{stroke:#1d3d73;stroke-width:1.6;stroke-linecap:round}.edge:hover{stroke:#e91e63;stroke-width:4}.vertex{fill:#1d3d73}\
 .leader{stroke:#7a8db0;stroke-width:.6}.text{paint-order:stroke;stroke:#fff;stroke-width:3px;stroke-linejoin:round}\
 .number{fill:#1d3d73}.name{font-weight:bold}.body{stroke-width:1.6}.line{stroke-width:1.3}\
-.clear{fill:#0a7d32;stroke:#0a7d32}.hit{fill:#c62828;stroke:#c62828}\
+.clear{fill:#0a7d32;stroke:#0a7d32}.near{fill:#c77700;stroke:#c77700}.hit{fill:#c62828;stroke:#c62828}\
+.nothing{fill:#777;stroke:#777}\
 .refused{fill:#8e24aa;stroke:#8e24aa;stroke-dasharray:5 4}\
-.start{fill:#1565c0;stroke:#1565c0;stroke-dasharray:6 4}.nearest{fill:#e06c00;stroke:#e06c00}\
-.collision{fill:#c62828;stroke:#c62828}\
+.start{fill:#1565c0;stroke:#1565c0;stroke-dasharray:6 4}\
 .way{fill:none;stroke:#1565c0;stroke-dasharray:2 4}.text{stroke-dasharray:none}\
-.text.clear,.text.hit,.text.refused,.text.start,.text.nearest,.text.collision{stroke:#fff}";
+.text.clear,.text.near,.text.hit,.text.nothing,.text.refused,.text.start{stroke:#fff}";
 
 /// The picture of an accepted store.
 pub fn picture(view: &View) -> Option<String> {
@@ -34,7 +35,7 @@ pub fn picture(view: &View) -> Option<String> {
     let base = Extent::of_section(vertices);
     let (near, far): (Vec<&Row>, Vec<&Row>) =
         view.rows.iter().partition(|row| Extent::of_body(row.body).is_some_and(|extent| base.has_near(extent)));
-    let stops = view.tried.iter().flat_map(bodies::stops).map(|(body, ..)| body);
+    let stops = view.tried.iter().flat_map(|tried| bodies::stops(section, tried)).map(|stop| stop.body);
     let drawn = near.iter().map(|row| row.body).chain(stops).filter_map(Extent::of_body);
     let (within, beyond): (Vec<Extent>, Vec<Extent>) = drawn.partition(|extent| base.has_near(*extent));
     let frame = Frame::of(within.into_iter().fold(base, Extent::with));
@@ -50,12 +51,12 @@ pub fn picture(view: &View) -> Option<String> {
         bodies::draw_move(&mut canvas, &mut labels, &frame, section, tried);
     }
     let numbers = Numbers::of(&lines);
-    let witnesses: Vec<u32> = near.iter().filter_map(|row| row.answer.ok()).map(|hit| hit.edge).collect();
+    let witnesses: Vec<u32> = near.iter().filter_map(|row| row.answer.ok()).map(|told| told.hit.edge).collect();
     numbers.draw(&mut canvas, &mut labels, vertices, &lines, &witnesses);
     let mut omitted = omitted(&far, labels.left_out, numbers.every);
     omitted.extend((!beyond.is_empty()).then(|| "the move goes beyond the picture".to_string()));
     let height = notes(&mut canvas, &frame, view, omitted);
-    title(&mut canvas, view, section);
+    title(&mut canvas, &frame, view, section);
     // Where many overlap, each is paler, so that the section shows through.
     let shade = if near.len() > 10 { 0.03 } else { 0.13 };
     Some(canvas.finish((frame.size().0, height), &format!("{STYLE}.body{{fill-opacity:{shade}}}")))
@@ -103,12 +104,16 @@ fn draw_edges(canvas: &mut Canvas, view: &View, lines: &[[At; 2]]) {
     }
 }
 
-fn title(canvas: &mut Canvas, view: &View, section: &Section) {
+fn title(canvas: &mut Canvas, frame: &Frame, view: &View, section: &Section) {
     let (vertices, bodies) = (section.vertices().len(), view.rows.len());
-    canvas.label("title", (22.0, 28.0), 18.0, &format!("{}: {vertices} vertices, {bodies} bodies", view.name));
-    let legend = "z to the right, radius up, in mm; edges numbered from 0, their mirror image grey; bodies by their record: \
-                  green clear, red touching or overlapping, dashed refused; lines lead to the witness";
-    canvas.label("note", (22.0, 50.0), 12.0, legend);
+    // Of a long path the end.
+    let name = match view.name.char_indices().rev().nth(57) {
+        Some((start, _)) if start > 2 => format!("..{}", &view.name[start..]),
+        _ => view.name.clone(),
+    };
+    let text = format!("{name}: {vertices} vertices, {bodies} bodies");
+    let lines = legend::wrapped(&text, 18.0, frame.size().0 - 44.0);
+    lines.iter().zip([28.0, 50.0]).for_each(|(line, y)| canvas.label("title", (22.0, y), 18.0, line));
 }
 
 /// What the picture does not show.
@@ -123,16 +128,13 @@ fn omitted(far: &[&Row], left_out: usize, every: usize) -> Vec<String> {
     outside.into_iter().chain(crowded).chain(rule).collect()
 }
 
-/// Lines below the picture: what came of the move, what is omitted, and the warnings; returns where they end.
+/// Lines below the picture: the legend, what came of the move, what is omitted, and the warnings; returns where they end.
 fn notes(canvas: &mut Canvas, frame: &Frame, view: &View, omitted: Vec<String>) -> f64 {
     let plain = view.tried.iter().map(table::moved).chain(omitted).map(|text| ("note", text));
     let doubts = view.warnings.iter().map(|warning| ("warning", format!("warning: {}", warning.text)));
-    let mut y = frame.size().1 + 16.0;
-    for (class, text) in plain.chain(doubts) {
-        canvas.label(class, (22.0, y), 13.0, &text);
-        y += 19.0;
-    }
-    y + 4.0
+    let (width, below) = (frame.size().0, frame.size().1 + 16.0);
+    let y = legend::legend(canvas, width, below, view);
+    plain.chain(doubts).fold(y, |y, (class, text)| legend::write(canvas, class, width, y, &text)) + 4.0
 }
 
 #[cfg(test)]
@@ -146,7 +148,7 @@ mod tests {
 
     #[test]
     fn the_example() {
-        let svg = picture(&View::new("a<b", &samples::bodies(), None).unwrap()).unwrap();
+        let svg = picture(&View::new("a<b", &samples::bodies(), 1.0, None).unwrap()).unwrap();
         assert!(svg.starts_with("<svg ") && svg.ends_with("</svg>\n") && svg.contains("a&lt;b: 4 vertices"));
         assert_eq!((count(&svg, "class=\"edge\""), count(&svg, "class=\"text number\"")), (4, 4));
         assert_eq!((count(&svg, "class=\"mirror\""), count(&svg, "class=\"text name ")), (1, 8));
@@ -161,8 +163,8 @@ mod tests {
         let vertices: Vec<[f64; 2]> = wave.chain([[253.0, 0.0], [0.0, 0.0]]).collect();
         let bad = [(2, [1e6, 0.0, 0.0, 1.0]), (3, [5.0, 4.0, 0.0, 1.0]), (2, [0.0, f64::NAN, 0.0, 1.0])];
         let bodies = [&bad[..], &[(2, [80.0, 0.0, 101.6, 4.0])]].concat();
-        let view = View::new("wave", &samples::store(&vertices, &bodies), None).unwrap();
-        let (svg, edge) = (picture(&view).unwrap(), view.rows[3].answer.unwrap().edge);
+        let view = View::new("wave", &samples::store(&vertices, &bodies), 1.0, None).unwrap();
+        let (svg, edge) = (picture(&view).unwrap(), view.rows[3].answer.unwrap().hit.edge);
         assert!(edge % 5 != 0 && svg.contains(&format!(">{edge}</text>")));
         assert_eq!(count(&svg, "class=\"text number\""), 52 + 2 + 1);
         assert!(svg.contains(">253</text>") && svg.contains(">255</text>") && svg.contains("that 5 divides"));
@@ -172,17 +174,42 @@ mod tests {
 
     #[test]
     fn a_move_and_a_refused_store() {
-        let asked = moving::parse("5:0,0,20:0,0,-10:6", 1.0);
-        let svg = picture(&View::new("m", &samples::bodies(), asked).unwrap()).unwrap();
-        assert!(svg.contains("5: start") && svg.contains("5: too near, and nearest: step 6"));
+        let drawn = |word: &str, clearance| {
+            picture(&View::new("m", &samples::bodies(), clearance, moving::parse(word)).unwrap()).unwrap()
+        };
+        let svg = drawn("5:0,0,20:0,0,-10:6", 1.0);
+        assert!(svg.contains("5: start") && svg.contains("5: overlaps from step 6"));
         assert_eq!(count(&svg, "class=\"way\""), 1);
-        let asked = moving::parse("5:0,0,20:0,0,-10:6", 8.0);
-        let svg = picture(&View::new("m", &samples::bodies(), asked).unwrap()).unwrap();
-        assert!(svg.contains("5: too near from step 4") && svg.contains("5: nearest: step 6"));
+        let svg = drawn("5:0,0,20:0,0,-10:6", 8.0);
+        assert!(svg.contains("5: too near from step 4") && svg.contains("5: overlaps: step 6"));
         assert!(!svg.contains("goes beyond"));
-        let asked = moving::parse("5:0,0,5000:0,0,-10:6", 8.0);
-        let svg = picture(&View::new("m", &samples::bodies(), asked).unwrap()).unwrap();
-        assert!(svg.contains("the move goes beyond the picture"));
-        assert!(picture(&View::new("m", &[], None).unwrap()).is_none());
+        let svg = drawn("5:0,0,20:0,0,-5:5", 2.0);
+        assert!(svg.contains("5: too near, and nearest: step 5"));
+        let svg = drawn("5:0,0,20:0,0,0:5", 2.0);
+        assert!(svg.contains("5: nearest: step 5") && svg.contains("clear of 2 mm at every step"));
+        assert!(drawn("5:0,0,5000:0,0,-10:6", 8.0).contains("the move goes beyond the picture"));
+        assert!(picture(&View::new("m", &[], 1.0, None).unwrap()).is_none());
+    }
+
+    #[test]
+    fn long_names_end_within_the_picture() {
+        let title = |name: &str| picture(&View::new(name, &samples::bodies(), 1.0, None).unwrap()).unwrap();
+        assert!(title(&"é/".repeat(100)).contains(&format!(">..{}: 4", "é/".repeat(29))));
+        assert!(title("a folder/x.store").contains(">a folder/x.store: 4 vertices, 8 bodies<"));
+    }
+
+    /// Green is at least as far away as the clearance; what a probe measured of an overlap is not drawn.
+    #[test]
+    fn colours_by_the_clearance() {
+        let s = [[0.0, 10.0], [20.0, 10.0], [20.0, 0.0], [0.0, 0.0]];
+        let bodies = [(3, [25.0, 30.0, 0.0, 5.0]), (3, [-5.0, 25.0, 5.0, 15.0]), (3, [5.0, 15.0, 2.0, 8.0])];
+        let drawn =
+            |clearance| picture(&View::new("m", &samples::store(&s, &bodies), clearance, None).unwrap()).unwrap();
+        let named = |svg: &str, class: &str| count(svg, &format!("class=\"text name {class}\""));
+        let (fine, coarse) = (drawn(5.0), drawn(5.1));
+        assert_eq!((named(&fine, "clear"), named(&fine, "near"), named(&fine, "hit")), (1, 0, 2));
+        assert_eq!((named(&coarse, "clear"), named(&coarse, "near"), named(&coarse, "hit")), (0, 1, 2));
+        assert!(fine.contains("clear: 5 mm away or more") && !fine.contains("-1e-8"));
+        assert_eq!(count(&fine, ">overlaps</text>"), 2);
     }
 }

@@ -67,7 +67,7 @@ macro_rules! rust_cylinder {
     }};
 }
 
-/// Settings for roughing.
+/// Coarse settings.
 const COARSE: Settings = Settings { tolerance: 0.01, most: 64, intervals: 4 };
 
 /// The Rust has no settings but the finest.
