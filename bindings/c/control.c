@@ -6,7 +6,7 @@
 /* What the machine needs, and the tolerance of the second look, in mm. */
 static const double CLEARANCE = 0.5, SECOND = 0.001;
 /* What rounding may add where no magnitude is over 1,024 mm, margin's own included; the lean of a cap, for each mm of radius. */
-static const double ROUNDING = 0.00025, CAPS = 1.4143e-4;
+static const double ROUNDING = 0.00125, CAPS = 1.4143e-4;
 
 struct part { double numbers[32]; size_t count; };
 
@@ -28,7 +28,7 @@ static uint32_t build(struct part *part, const double *profile, size_t count) {
     return refused("profile", jorghipa_build_section(profile, count, part->numbers, 32, &part->count));
 }
 
-/* How much more than the true distance a walk may report, an overlap as up to so much; argued and measured, not proved yet (see
+/* How much more than the true distance a walk may report, an overlap as up to so much; proved (see
  * jorghipa.h). Rounding is on top. */
 static double margin(double radius, double tolerance) {
     const double wide = jorghipa_sqrt(2 * radius * tolerance), v = wide > tolerance ? wide : tolerance;

@@ -40,13 +40,20 @@
  *    Clearance   of a verdict, an assembly or a move: what the machine needs, plus V. Calls without settings have t = 1e-9
  *    Distance    that the caller compares: take off V; of every cylinder that leans, along z too, also half of what its ends
  *                stand apart, seen along the axis. Verdicts and a move's collision take that half off by themselves
- *    Rounding    for every kind of body add 0.00025 mm; where a magnitude is over 1,024 mm, 1 / 2^22 of the largest
+ *    Rounding    for every kind of body add 0.00125 mm; where a magnitude is over 1,024 mm, 1.25 mm
  *    Caps        where a cylinder leans, add 1.4143e-4 R: a verdict counts the lean of its axis and not that of its caps
  *    Below 0     never give a clearance below 0: an overlap of centimetres may be told as -1e-8, and is then clear
  *    At 0        a convex body that lies wholly in the solid, or a bar of radius 0 that passes through it, may be clear
- * bindings/c/control.c does this sum. NOT PROVED YET: V and what is said of a cut are argued and were measured (docs/SCOPE.md),
- * rounding and caps are argued only. It is meant for an outline that is listed once and nowhere meets itself, whose radii are 0 or
- * at least 1/128 mm, and for bodies above the axis; docs/LIMITS.md has what is known to go wrong elsewhere.
+ * bindings/c/control.c does this sum. It is meant for an outline that is listed once and nowhere meets itself, whose radii are 0
+ * or at least 1/128 mm, and for bodies above the axis; docs/LIMITS.md has what is known to go wrong elsewhere. How much is proved:
+ *    PROVED, beside a section whose radii are 0 or at least 1/128 mm, of the exact solid, turned about the spindle:
+ *       points, spheres   the distance exceeds that to no point of the solid by more than 2^-26 mm (1.5e-8); a sphere judged
+ *                         clear has its clearance, less 1e-9 and 2^-26 mm. Where no number is over 1,024 mm, 2^-36 for 2^-26
+ *       boxes             by no more than 0.29 mm, where no number is over 1,024 mm 0.00028 mm; judged clear, the clearance is
+ *                         kept but for that
+ *       across            by no more than V, if the walk was not cut, and the rounding above; judged clear, the clearance is kept
+ *                         but for these, from the bar as if straight and as it leans, its caps aside
+ *    NOT PROVED: convex bodies; cylinders along the spindle where they lean; caps; how far a cut is low. docs/TRUTH.md has more
  *
  * ---- What is promised
  * Proved for every argument, NaN and infinities too: a call ends, writes nowhere but into what it was lent, and returns 0 or the

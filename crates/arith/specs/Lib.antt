@@ -2,3 +2,4 @@
 pub mod F64
 pub mod Num
 pub mod Vector
+pub mod Whole

@@ -3,6 +3,7 @@
 pub mod answer;
 pub mod assembly;
 pub mod bars;
+pub mod bisection;
 pub mod edits;
 pub mod fixed;
 pub mod generate;

@@ -11,11 +11,12 @@ fn code(program: &[&str], word: &str) -> Option<i32> {
 
 #[test]
 fn help_and_unknown_words() {
-    let programs: [&[&str]; 7] = [
+    let programs: [&[&str]; 8] = [
         &[env!("CARGO_BIN_EXE_compare")],
         &[env!("CARGO_BIN_EXE_roots")],
         &[env!("CARGO_BIN_EXE_bench")],
         &[env!("CARGO_BIN_EXE_advice")],
+        &[env!("CARGO_BIN_EXE_truth")],
         &["sh", "make_copies"],
         &["python3", "hard_roots.py"],
         &["python3", "listing/make_stores.py"],

@@ -1,9 +1,9 @@
 //! What the settings of the walk cost and give, over ordinary bars across the spindle, beside the true distance of each.
 
 use checks::bars::{KINDS, Kind};
+use checks::bisection::{BOUND, Bar, Solid};
 use checks::random::Random;
 use checks::timing::processor_time;
-use checks::truth::{BOUND, Bar, Solid};
 use jorghipa::{Cylinder, CylinderHit, Point, Settings, bare};
 
 const USAGE: &str = "usage: advice [BARS [SEED]]

@@ -1,0 +1,5 @@
+pub mod Exact
+pub mod Points
+pub mod Solid
+pub mod Boxes
+pub mod Cylinders
