@@ -62,7 +62,8 @@ def closure(first):
     while left:
         crate, module = left.pop()
         if module.startswith("declared."):
-            types.add((crate, *module.split(".")[1:3]))
+            path, name = re.match(r"declared\.(.*?)\.([A-Z]\w*)", module).groups()
+            types.add((crate, path, name))
         elif (crate, module) not in files:
             files.add((crate, module))
             left += cited(specs(crate, module).read_text())
@@ -75,14 +76,16 @@ def specs(crate, module):
 
 def declared(crate, module, name):
     """The text of a struct or an enum, with the comment before it."""
-    source = (ROOT / "crates" / crate / "src" / (module + ".rt")).read_text()
+    source = (ROOT / "crates" / crate / "src" / (module.replace(".", "/") + ".rt")).read_text()
     pattern = rf"((?:^//.*\n)*(?:^#\[.*\n)*^pub (?:struct|enum) {name} \{{[\s\S]*?^\}}\n)"
     return re.search(pattern, source, re.M).group(1)
 
 
-def order(crate):
-    """The specs files of a crate in the order in which it lists them."""
-    return re.findall(r"^pub mod (\S+)", (ROOT / "crates" / crate / "specs" / "Lib.antt").read_text(), re.M)
+def order(crate, node="Lib", above=""):
+    """The specs files of a crate in the order in which it, and each module of it, lists them."""
+    for name in re.findall(r"^pub mod (\S+)", specs(crate, node).read_text(), re.M):
+        yield above + name
+        yield from order(crate, above + name, above + name + ".")
 
 
 def text(version):
@@ -100,7 +103,8 @@ def text(version):
         if shapes:
             parts.append("\n".join(declared(*shape) for shape in shapes))
         for module in mine:
-            parts.append(f"---- crates/{crate}/specs/{module}.antt\n\n" + specs(crate, module).read_text())
+            path = specs(crate, module)
+            parts.append(f"---- {path.relative_to(ROOT)}\n\n" + path.read_text())
     return "\n".join(parts)
 
 

@@ -1,5 +1,6 @@
--- What a reader has to believe of the numbers, beside the roots of crate roots.
+-- What a reader has to believe of the numbers and of the roots.
 pub mod F64
 pub mod Num
 pub mod Vector
 pub mod Whole
+pub mod roots

@@ -1,7 +1,7 @@
 -- Vectors of three f64, by component.
 use lib.Ieee.{Float, binary64}
 use Rattle.arith.specs.F64.{_⊖_, _⊗_}
-use Rattle.roots.specs.Roots.{hypot}
+use Rattle.arith.specs.roots.Roots.{hypot}
 use Rattle.arith.specs.declared.vector.Vec3.{Vec3}
 
 abbrev pub vec : Float → Float → Float → Vec3

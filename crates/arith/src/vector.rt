@@ -1,7 +1,7 @@
 // Vectors of three f64 by value.
 ghost use mathlib.Core.Path.{_≡_};
 ghost use Rattle.arith.specs.Vector.{subtract, scaleBy, norm};
-use hypot::hypot;
+use crate::hypot;
 
 pub struct Vec3 {
     pub x: f64,

@@ -4,10 +4,10 @@ use Prim.Native.Nat.{ℕ}
 use mathlib.Core.List.{List, [], _++_}
 use mathlib.Core.Path.{_≡_}
 use lib.Dec.{T}
-use Rattle.profile.specs.Refusals.{Test, refusal, anyOf}
-use Rattle.profile.specs.Steps.{numbered, orElse}
-use Rattle.profile.proofs.Refusals.Ordered.{refusal-append}
-use Rattle.profile.proofs.Refusals.Passed.{Taken, taken}
+use Rattle.section.specs.profile.Refusals.{Test, refusal, anyOf}
+use Rattle.section.specs.profile.Steps.{numbered, orElse}
+use Rattle.section.proofs.profile.Refusals.Ordered.{refusal-append}
+use Rattle.section.proofs.profile.Refusals.Passed.{Taken, taken}
 use Rattle.bodies.specs.Bodies.{aloneTests, bodyNumbers, bodyOwn}
 use Rattle.bodies.specs.declared.shapes.Body.{Body}
 use Rattle.bodies.specs.declared.shapes.Body.the-variants.{Sphere, Box, Cylinder}

@@ -2,10 +2,10 @@
 -- kind.
 use mathlib.Core.List.{List, []}
 use lib.Ieee.{Float}
-use Rattle.profile.specs.Refusals.{refusal}
-use Rattle.profile.proofs.Refusals.Calls.{sphere-lowest, box-lowest}
-use Rattle.profile.proofs.Refusals.Ordered.{Lowest}
-use Rattle.cylinders.proofs.Lowest.{cylinder-lowest}
+use Rattle.section.specs.profile.Refusals.{refusal}
+use Rattle.section.proofs.profile.Refusals.Calls.{sphere-lowest, box-lowest}
+use Rattle.section.proofs.profile.Refusals.Ordered.{Lowest}
+use Rattle.walk.proofs.cylinders.Lowest.{cylinder-lowest}
 use Rattle.bodies.specs.Bodies.{bodyTests}
 use Rattle.bodies.specs.declared.shapes.Body.{Body}
 use Rattle.bodies.specs.declared.shapes.Body.the-variants.{Sphere, Box, Cylinder}

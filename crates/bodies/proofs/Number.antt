@@ -5,12 +5,12 @@ use mathlib.Core.Path.{_≡_}
 use lib.Dec.{T}
 use lib.Ieee.{Float, isNan}
 use Rattle.arith.proofs.Laws.Extended.{finite-not-nan}
-use Rattle.profile.specs.Refusals.{refusal}
+use Rattle.section.specs.profile.Refusals.{refusal}
 use Rattle.section.proofs.Demand.Queries.{sphere-bounded, box-bounded}
-use Rattle.settings.specs.Settings.{settingsTests}
-use Rattle.settings.specs.declared.shapes.Settings.{Settings}
-use Rattle.cylinders.proofs.Cover.Accepted.{settings-accepted}
-use Rattle.cylinders.proofs.Demand.Cylinders.{cylinder-bounded}
+use Rattle.walk.specs.settings.Settings.{settingsTests}
+use Rattle.walk.specs.declared.settings.shapes.Settings.{Settings}
+use Rattle.walk.proofs.cylinders.Cover.Accepted.{settings-accepted}
+use Rattle.walk.proofs.cylinders.Demand.Cylinders.{cylinder-bounded}
 use Rattle.bodies.specs.Bodies.{bodyTests, bodyDistance}
 use Rattle.bodies.specs.declared.shapes.Body.{Body}
 use Rattle.bodies.specs.declared.shapes.Body.the-variants.{Sphere, Box, Cylinder}

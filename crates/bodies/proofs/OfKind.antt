@@ -1,13 +1,13 @@
 -- What the query of a sphere or a box promises: demand 1, by what passes its tests.
 use mathlib.Core.List.{List, []}
 use lib.Ieee.{Float}
-use Rattle.profile.specs.Refusals.{refusal, sphereTests, boxTests}
-use Rattle.profile.specs.Replies.{OfValue}
-use Rattle.profile.specs.declared.shapes.Aabb.{Aabb}
-use Rattle.profile.specs.declared.shapes.Sphere.{Sphere}
-use Rattle.profile.proofs.Replies.{of-reply}
-use Rattle.settings.specs.Settings.{settingsTests}
-use Rattle.settings.specs.declared.shapes.Settings.{Settings}
+use Rattle.section.specs.profile.Refusals.{refusal, sphereTests, boxTests}
+use Rattle.section.specs.profile.Replies.{OfValue}
+use Rattle.section.specs.declared.profile.shapes.Aabb.{Aabb}
+use Rattle.section.specs.declared.profile.shapes.Sphere.{Sphere}
+use Rattle.section.proofs.profile.Replies.{of-reply}
+use Rattle.walk.specs.settings.Settings.{settingsTests}
+use Rattle.walk.specs.declared.settings.shapes.Settings.{Settings}
 use Rattle.section.proofs.Demand.Queries.{sphere-bounded, box-bounded}
 use Rattle.bodies.specs.Bodies.{bodyAnswer, bodyDistance, BodyPromised}
 use Rattle.bodies.specs.declared.shapes.Body.the-variants.{Sphere as Ball, Box}

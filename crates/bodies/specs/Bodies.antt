@@ -3,18 +3,18 @@ use Prim.Native.Nat.{ℕ}
 use mathlib.Core.Bool.{false}
 use mathlib.Core.List.{List, [], _++_}
 use lib.Ieee.{Float}
-use Rattle.profile.specs.Refusals.{Test, refusal, sphereNumbers, boxNumbers, numberTests, radiusTests, boundsTests, besideTests}
-use Rattle.profile.specs.Replies.{Reply, reply}
-use Rattle.profile.specs.declared.shapes.CollisionHit.{CollisionHit}
-use Rattle.points.specs.Points.{sphereDistance}
-use Rattle.boxes.specs.Boxes.{boxDistance}
+use Rattle.section.specs.profile.Refusals.{Test, refusal, sphereNumbers, boxNumbers, numberTests, radiusTests, boundsTests, besideTests}
+use Rattle.section.specs.profile.Replies.{Reply, reply}
+use Rattle.section.specs.declared.profile.shapes.CollisionHit.{CollisionHit}
+use Rattle.section.specs.points.Points.{sphereDistance}
+use Rattle.section.specs.boxes.Boxes.{boxDistance}
 use Rattle.section.specs.Demand.{Bounded, BoundedOffAxis}
-use Rattle.bands.specs.Axis.{axis}
-use Rattle.settings.specs.Settings.{settingsTests}
-use Rattle.settings.specs.declared.shapes.Settings.{Settings}
+use Rattle.walk.specs.bands.Axis.{axis}
+use Rattle.walk.specs.settings.Settings.{settingsTests}
+use Rattle.walk.specs.declared.settings.shapes.Settings.{Settings}
 use Rattle.walk.specs.declared.shapes.CountedHit.{CountedHit}
-use Rattle.cylinders.specs.Cylinders.{cylinderNumbers, cylinderOwn, cylinderDistance}
-use Rattle.cylinders.specs.Promised.{Promised}
+use Rattle.walk.specs.cylinders.Cylinders.{cylinderNumbers, cylinderOwn, cylinderDistance}
+use Rattle.walk.specs.cylinders.Promised.{Promised}
 use Rattle.bodies.specs.declared.shapes.Body.{Body}
 use Rattle.bodies.specs.declared.shapes.Body.the-variants.{Sphere, Box, Cylinder}
 

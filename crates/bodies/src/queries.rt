@@ -1,22 +1,22 @@
 // The query of a body, whatever its kind.
 ghost use mathlib.Core.Path.{_≡_};
-ghost use Rattle.profile.specs.Replies.{Answers};
-ghost use Rattle.cylinders.specs.Cylinders.{told};
+ghost use Rattle.section.specs.profile.Replies.{Answers};
+ghost use Rattle.walk.specs.cylinders.Cylinders.{told};
 ghost use Rattle.bodies.specs.Bodies.{bodyAnswer, BodyPromised, boxesOnly};
 ghost use Rattle.bodies.specs.declared.shapes.Body.the-variants as body·kinds;
 use super::shapes::Body;
-use aabb::box_distance;
-use cylinders::CountedAnswer;
-use cylinders::query_cylinder;
-use profile::Aabb;
-use profile::CollisionHit;
-use profile::Sphere;
-use refusals::box_refusal;
-use refusals::sphere_refusal;
-use settings::Settings;
-use settings::settings_refusal;
-use signed::sphere_distance;
+use section::Aabb;
+use section::CollisionHit;
+use section::Sphere;
+use section::box_distance;
+use section::box_refusal;
+use section::sphere_distance;
+use section::sphere_refusal;
+use walk::CountedAnswer;
 use walk::CountedHit;
+use walk::Settings;
+use walk::query_cylinder;
+use walk::settings_refusal;
 
 // This number of boxes, nothing waiting, uncut.
 fn boxes_only(hit: CollisionHit, boxes: usize) -> CountedHit

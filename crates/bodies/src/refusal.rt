@@ -1,17 +1,17 @@
 // What is turned down of a body alone, whatever stands beside it: 4 and 5 of its numbers, then its own.
 ghost use mathlib.Core.Path.{_≡_};
-ghost use Rattle.profile.specs.Refusals.{refusal};
+ghost use Rattle.section.specs.profile.Refusals.{refusal};
 ghost use Rattle.bodies.specs.Bodies.{aloneTests};
 ghost use Rattle.bodies.specs.declared.shapes.Body.the-variants as body·kinds;
 use super::shapes::Body;
-use bands::Cylinder;
-use bands::axis_of;
-use cylinders::own_refusal;
-use profile::Aabb;
-use profile::Sphere;
-use refusals::alone_refusal;
-use refusals::bounds_refusal;
-use refusals::radius_refusal;
+use section::Aabb;
+use section::Sphere;
+use section::alone_refusal;
+use section::bounds_refusal;
+use section::radius_refusal;
+use walk::Cylinder;
+use walk::axis_of;
+use walk::own_refusal;
 
 fn sphere_alone(b: Sphere) -> u32
     ensures { λ r. ⌜ r ≡ refusal (aloneTests (body·kinds.Sphere b)) ⌝ }

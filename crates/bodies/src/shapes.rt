@@ -1,7 +1,7 @@
 // A body beside a section.
-use bands::Cylinder;
-use profile::Aabb;
-use profile::Sphere;
+use section::Aabb;
+use section::Sphere;
+use walk::Cylinder;
 
 pub enum Body {
     Sphere(Sphere),

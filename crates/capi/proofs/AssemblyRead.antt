@@ -5,14 +5,14 @@ use mathlib.Core.List.{List}
 use mathlib.Core.Path.{_≡_, refl, ap, sym, subst, _∙_}
 use lib.Ieee.{Float}
 use lib.ListN.{length, take}
-use Rattle.profile.specs.Refusals.{refusal}
-use Rattle.profile.specs.Replies.{Reply, turned-down}
+use Rattle.section.specs.profile.Refusals.{refusal}
+use Rattle.section.specs.profile.Replies.{Reply, turned-down}
 use Rattle.bodies.specs.declared.shapes.Body.{Body}
-use Rattle.assemblies.specs.Assemblies.{anyHit}
-use Rattle.assemblies.proofs.Behind.{behind-unseen, too-many-unseen}
-use Rattle.lists.specs.Lists.{listsTests, bodiesOf, frontOf}
-use Rattle.lists.proofs.Taken.{front-cases}
-use Rattle.handing.specs.Interface.{orElseReply}
+use Rattle.bodies.specs.assemblies.Assemblies.{anyHit}
+use Rattle.bodies.proofs.assemblies.Behind.{behind-unseen, too-many-unseen}
+use Rattle.capi.specs.lists.Lists.{listsTests, bodiesOf, frontOf}
+use Rattle.capi.proofs.lists.Taken.{front-cases}
+use Rattle.capi.specs.handing.Interface.{orElseReply}
 use Rattle.capi.specs.Calls.{anyHitOf}
 
 first-reply : {A : Type 0} (n : ℕ) (answer : Reply A) → (n ≡ 0 → ⊥) → turned-down n ≡ orElseReply n answer

@@ -5,16 +5,16 @@ use mathlib.Core.List.{List}
 use lib.Ieee.{Float}
 use lib.ListN.{length}
 use Rattle.arith.specs.declared.vector.Vec3.{Vec3}
-use Rattle.profile.specs.Refusals.{refusal}
-use Rattle.profile.specs.Replies.{Reply}
-use Rattle.settings.specs.declared.shapes.Settings.{Settings}
-use Rattle.assemblies.specs.Assemblies.{anyHit}
-use Rattle.pairs.specs.Pairs.{Won, pairAnswer}
-use Rattle.moves.specs.Moves.{moveAnswer}
-use Rattle.moves.specs.declared.shapes.Report.{Report}
-use Rattle.moves.specs.declared.shapes.Travel.{Travel}
-use Rattle.lists.specs.Lists.{oneBodyTests, listsTests, bodyAt, bodiesOf}
-use Rattle.handing.specs.Interface.{orElseReply}
+use Rattle.section.specs.profile.Refusals.{refusal}
+use Rattle.section.specs.profile.Replies.{Reply}
+use Rattle.walk.specs.declared.settings.shapes.Settings.{Settings}
+use Rattle.bodies.specs.assemblies.Assemblies.{anyHit}
+use Rattle.bodies.specs.pairs.Pairs.{Won, pairAnswer}
+use Rattle.bodies.specs.moves.Moves.{moveAnswer}
+use Rattle.bodies.specs.declared.moves.shapes.Report.{Report}
+use Rattle.bodies.specs.declared.moves.shapes.Travel.{Travel}
+use Rattle.capi.specs.lists.Lists.{oneBodyTests, listsTests, bodyAt, bodiesOf}
+use Rattle.capi.specs.handing.Interface.{orElseReply}
 
 unfoldable pub anyHitOf : List Float → List ℕ → List Float → Float → Reply Bool
 anyHitOf s kinds numbers clearance =

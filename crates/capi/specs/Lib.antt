@@ -2,3 +2,6 @@
 pub mod Calls
 pub mod Reading
 pub mod Version
+pub mod lists
+pub mod handing
+pub mod given_edits

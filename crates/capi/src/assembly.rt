@@ -1,5 +1,5 @@
 // Does anything hit: 1 yes, 0 no.
-ghost use Rattle.handing.specs.Interface.{Gives, mark};
+ghost use Rattle.capi.specs.handing.Interface.{Gives, mark};
 ghost use Rattle.capi.specs.Calls.{anyHitOf};
 
 #[no_mangle]
@@ -13,11 +13,11 @@ pub extern "C" fn jorghipa_any_hit(
     ensures { λ r. ⌜ Gives mark (anyHitOf (now (section .entry)) (now (kinds .entry)) (now (numbers .entry)) clearance)
         r (now (hit .entry)) (now (hit .exit)) ⌝ }
 {
-    let number = lists::lists_refusal(kinds, numbers);
+    let number = crate::lists::lists_refusal(kinds, numbers);
     if number != 0 {
         return number;
     }
-    let bodies = lists::bodies_of(kinds, numbers, lists::front_of(kinds.len()));
-    let verdict = assemblies::any_hit(section, bodies, kinds.len(), clearance);
-    handing::judge(verdict, hit)
+    let bodies = crate::lists::bodies_of(kinds, numbers, crate::lists::front_of(kinds.len()));
+    let verdict = bodies::any_hit(section, bodies, kinds.len(), clearance);
+    crate::handing::judge(verdict, hit)
 }

@@ -1,13 +1,13 @@
 // The distance of a cylinder, with its counts and its mark.
 ghost use Rattle.arith.specs.Vector.{vec};
-ghost use Rattle.cylinders.specs.Cylinders.{cylinderAnswer};
-ghost use Rattle.cylinders.specs.Promised.{Promised};
-ghost use Rattle.settings.specs.Settings.{settings};
-ghost use Rattle.bands.specs.Band.{bar};
-ghost use Rattle.handing.specs.Interface.{Measures, places, counts, both, cylinderPlaces};
+ghost use Rattle.walk.specs.cylinders.Cylinders.{cylinderAnswer};
+ghost use Rattle.walk.specs.cylinders.Promised.{Promised};
+ghost use Rattle.walk.specs.settings.Settings.{settings};
+ghost use Rattle.walk.specs.bands.Band.{bar};
+ghost use Rattle.capi.specs.handing.Interface.{Measures, places, counts, both, cylinderPlaces};
 use arith::Vec3;
-use bands::Cylinder;
-use settings::Settings;
+use walk::Cylinder;
+use walk::Settings;
 
 #[no_mangle]
 pub extern "C" fn jorghipa_cylinder(
@@ -54,8 +54,8 @@ pub extern "C" fn jorghipa_cylinder(
         most,
         intervals,
     };
-    let answer = cylinders::query_cylinder(section, Cylinder { a, b, radius }, settings);
-    handing::give_cylinder(
+    let answer = walk::query_cylinder(section, Cylinder { a, b, radius }, settings);
+    crate::handing::give_cylinder(
         answer,
         distance,
         witness_z,

@@ -2,11 +2,11 @@
 ghost use Rattle.arith.specs.Vector.{vec};
 ghost use Rattle.section.specs.Answers.{pointAnswer, sphereAnswer, boxAnswer, convexAnswer};
 ghost use Rattle.section.specs.Demand.{Bounded, BoundedOffAxis};
-ghost use Rattle.boxes.specs.Boxes.{aabb};
-ghost use Rattle.profile.specs.Vertices.{ball};
-ghost use Rattle.handing.specs.Interface.{Measures, places, hitPlaces};
+ghost use Rattle.section.specs.boxes.Boxes.{aabb};
+ghost use Rattle.section.specs.profile.Vertices.{ball};
+ghost use Rattle.capi.specs.handing.Interface.{Measures, places, hitPlaces};
 use arith::Vec3;
-use profile::Sphere;
+use section::Sphere;
 
 #[no_mangle]
 pub extern "C" fn jorghipa_point(
@@ -24,7 +24,7 @@ pub extern "C" fn jorghipa_point(
         (places (now (distance .exit)) (now («witness_z» .exit)) (now («witness_radius» .exit)) (now (edge .exit)))) ⌝ }
 {
     let answer = section::signed_distance(section, Vec3 { x, y, z });
-    handing::give(answer, distance, witness_z, witness_radius, edge)
+    crate::handing::give(answer, distance, witness_z, witness_radius, edge)
 }
 
 #[no_mangle]
@@ -46,7 +46,7 @@ pub extern "C" fn jorghipa_sphere(
 {
     let center = Vec3 { x, y, z };
     let answer = section::query_sphere(section, Sphere { center, radius });
-    handing::give(answer, distance, witness_z, witness_radius, edge)
+    crate::handing::give(answer, distance, witness_z, witness_radius, edge)
 }
 
 #[no_mangle]
@@ -66,7 +66,7 @@ pub extern "C" fn jorghipa_box(
         (places (now (distance .exit)) (now («witness_z» .exit)) (now («witness_radius» .exit)) (now (edge .exit)))) ⌝ }
 {
     let answer = section::aabb_polygon_distance(z0, z1, r0, r1, section);
-    handing::give(answer, distance, witness_z, witness_radius, edge)
+    crate::handing::give(answer, distance, witness_z, witness_radius, edge)
 }
 
 #[no_mangle]
@@ -83,5 +83,5 @@ pub extern "C" fn jorghipa_convex(
         (places (now (distance .exit)) (now («witness_z» .exit)) (now («witness_radius» .exit)) (now (edge .exit)))) ⌝ }
 {
     let answer = section::convex_polygon_distance(convex, section);
-    handing::give(answer, distance, witness_z, witness_radius, edge)
+    crate::handing::give(answer, distance, witness_z, witness_radius, edge)
 }

@@ -1,10 +1,10 @@
 // Stores of records: a verdict on one, and edits of one in the space that the caller lends.
 ghost use Rattle.store.specs.Store.{storeAnswer};
-ghost use Rattle.edits.specs.Written.{written};
-ghost use Rattle.edits.specs.declared.shapes.Place.the-variants.{Record, Add};
-ghost use Rattle.given_edits.specs.Editing.{editOf, EditsSpace};
+ghost use Rattle.store.specs.edits.Written.{written};
+ghost use Rattle.store.specs.declared.edits.shapes.Place.the-variants.{Record, Add};
+ghost use Rattle.capi.specs.given_edits.Editing.{editOf, EditsSpace};
 ghost use Rattle.capi.specs.Reading.{ReadsStore};
-use edits::Place;
+use store::Place;
 use store::StoreAnswer;
 
 #[no_mangle]
@@ -20,7 +20,7 @@ pub extern "C" fn jorghipa_replace(
         EditsSpace (editOf s length role (Record «record») b) (written s length (Record «record») b) r s (now (space .exit))
         (now («length_after» .entry)) (now («length_after» .exit))) ⌝ }
 {
-    given_edits::edit_given(
+    crate::given_edits::edit_given(
         space,
         length,
         role,
@@ -42,7 +42,7 @@ pub extern "C" fn jorghipa_add(
         EditsSpace (editOf s length role Add b) (written s length Add b) r s (now (space .exit))
         (now («length_after» .entry)) (now («length_after» .exit))) ⌝ }
 {
-    given_edits::edit_given(space, length, role, Place::Add, bytes, length_after)
+    crate::given_edits::edit_given(space, length, role, Place::Add, bytes, length_after)
 }
 
 // The record is written where the store is refused: the K of the listing.
@@ -50,7 +50,7 @@ pub extern "C" fn jorghipa_add(
 pub extern "C" fn jorghipa_read_store(store: &[u8], record: &mut u32) -> u32
     ensures { λ r. ⌜ ReadsStore (storeAnswer (now (store .entry))) r (now («record» .entry)) (now («record» .exit)) ⌝ }
 {
-    let answer = reader::read_store(store);
+    let answer = store::read_store(store);
     match answer {
         StoreAnswer::Refused(number, k) => {
             *record = k;

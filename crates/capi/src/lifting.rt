@@ -1,17 +1,17 @@
 // The distances of bodies that have a middle in x and y, with the witness in the machine's axes.
 ghost use Rattle.arith.specs.Vector.{vec};
-ghost use Rattle.profile.specs.Vertices.{ball};
+ghost use Rattle.section.specs.profile.Vertices.{ball};
 ghost use Rattle.section.specs.Demand.{BoundedOffAxis};
-ghost use Rattle.settings.specs.Settings.{finest};
-ghost use Rattle.bands.specs.Band.{bar};
-ghost use Rattle.cylinders.specs.Promised.{Promised};
-ghost use Rattle.lifted.specs.Answers.{liftedPoint, liftedSphere, liftedCylinder, middleX, middleY};
-ghost use Rattle.lifted.specs.Placed.{WithPlace, WithPlaceCounted};
-ghost use Rattle.handing.specs.Interface.{Measures, counts, both};
-ghost use Rattle.handing.specs.Lifting.{lifted, liftedPlaces, liftedCylinderPlaces};
+ghost use Rattle.walk.specs.settings.Settings.{finest};
+ghost use Rattle.walk.specs.bands.Band.{bar};
+ghost use Rattle.walk.specs.cylinders.Promised.{Promised};
+ghost use Rattle.bodies.specs.lifted.Answers.{liftedPoint, liftedSphere, liftedCylinder, middleX, middleY};
+ghost use Rattle.bodies.specs.lifted.Placed.{WithPlace, WithPlaceCounted};
+ghost use Rattle.capi.specs.handing.Interface.{Measures, counts, both};
+ghost use Rattle.capi.specs.handing.Lifting.{lifted, liftedPlaces, liftedCylinderPlaces};
 use arith::Vec3;
-use bands::Cylinder;
-use profile::Sphere;
+use section::Sphere;
+use walk::Cylinder;
 
 #[no_mangle]
 pub extern "C" fn jorghipa_lifted_point(
@@ -32,8 +32,8 @@ pub extern "C" fn jorghipa_lifted_point(
         (lifted (now (distance .exit)) (now («witness_x» .exit)) (now («witness_y» .exit)) (now («witness_z» .exit))
         (now (edge .exit)))) ⌝ }
 {
-    let answer = lifted::lifted_point(section, Vec3 { x, y, z });
-    handing::give_lifted(answer, distance, witness_x, witness_y, witness_z, edge)
+    let answer = bodies::lifted_point(section, Vec3 { x, y, z });
+    crate::handing::give_lifted(answer, distance, witness_x, witness_y, witness_z, edge)
 }
 
 #[no_mangle]
@@ -57,8 +57,8 @@ pub extern "C" fn jorghipa_lifted_sphere(
         (now (edge .exit)))) ⌝ }
 {
     let center = Vec3 { x, y, z };
-    let answer = lifted::lifted_sphere(section, Sphere { center, radius });
-    handing::give_lifted(answer, distance, witness_x, witness_y, witness_z, edge)
+    let answer = bodies::lifted_sphere(section, Sphere { center, radius });
+    crate::handing::give_lifted(answer, distance, witness_x, witness_y, witness_z, edge)
 }
 
 #[no_mangle]
@@ -100,8 +100,8 @@ pub extern "C" fn jorghipa_lifted_cylinder(
         y: by,
         z: bz,
     };
-    let answer = lifted::lifted_cylinder(section, Cylinder { a, b, radius });
-    handing::give_lifted_cylinder(
+    let answer = bodies::lifted_cylinder(section, Cylinder { a, b, radius });
+    crate::handing::give_lifted_cylinder(
         answer,
         distance,
         witness_x,

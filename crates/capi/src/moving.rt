@@ -1,14 +1,14 @@
 // Trying a move: the report in the lent places.
 ghost use Rattle.arith.specs.Vector.{vec};
-ghost use Rattle.settings.specs.Settings.{settings};
-ghost use Rattle.moves.specs.Moves.{MovePromised};
-ghost use Rattle.handing.specs.Interface.{Measures};
-ghost use Rattle.lists.specs.Lists.{bodyAt};
-ghost use Rattle.handing.specs.Moves.{movePlaces, reportPlaces};
+ghost use Rattle.walk.specs.settings.Settings.{settings};
+ghost use Rattle.bodies.specs.moves.Moves.{MovePromised};
+ghost use Rattle.capi.specs.handing.Interface.{Measures};
+ghost use Rattle.capi.specs.lists.Lists.{bodyAt};
+ghost use Rattle.capi.specs.handing.Moves.{movePlaces, reportPlaces};
 ghost use Rattle.capi.specs.Calls.{travel, moveOf};
 use arith::Vec3;
-use moves::Travel;
-use settings::Settings;
+use bodies::Travel;
+use walk::Settings;
 
 #[no_mangle]
 pub extern "C" fn jorghipa_move(
@@ -42,7 +42,7 @@ pub extern "C" fn jorghipa_move(
         (movePlaces (now (distance .exit)) (now (step .exit)) (now (collides .exit)) (now («colliding_step» .exit))
         (now (boxes .exit)))) ⌝ }
 {
-    let number = lists::one_body_refusal(kind, numbers);
+    let number = crate::lists::one_body_refusal(kind, numbers);
     if number != 0 {
         return number;
     }
@@ -61,13 +61,13 @@ pub extern "C" fn jorghipa_move(
         most,
         intervals,
     };
-    let body = lists::body_at(kind, numbers, 0);
-    let answer = trials::try_move(
+    let body = crate::lists::body_at(kind, numbers, 0);
+    let answer = bodies::try_move(
         section,
         body,
         clearance,
         Travel { start, end, steps },
         settings,
     );
-    handing::give_report(answer, distance, step, collides, colliding_step, boxes)
+    crate::handing::give_report(answer, distance, step, collides, colliding_step, boxes)
 }

@@ -1,7 +1,7 @@
 // The version, the square root and the hypotenuse.
 ghost use mathlib.Core.Path.{_≡_};
 ghost use lib.Ieee.{binary64};
-ghost use Rattle.roots.specs.Roots as roots;
+ghost use Rattle.arith.specs.roots.Roots as roots;
 ghost use Rattle.capi.specs.Version.{version};
 
 #[no_mangle]

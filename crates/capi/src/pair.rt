@@ -1,8 +1,8 @@
 // Chuck and work together: the winner, 0 the chuck or 1 the work, its distance, counts and mark.
-ghost use Rattle.pairs.specs.Pairs.{pairConvexAnswer, PairPromised, PairConvexPromised};
-ghost use Rattle.lists.specs.Lists.{bodyAt};
-ghost use Rattle.handing.specs.Interface.{Measures, places, counts, both};
-ghost use Rattle.handing.specs.Pairs.{pairPlaces, wonPlaces};
+ghost use Rattle.bodies.specs.pairs.Pairs.{pairConvexAnswer, PairPromised, PairConvexPromised};
+ghost use Rattle.capi.specs.lists.Lists.{bodyAt};
+ghost use Rattle.capi.specs.handing.Interface.{Measures, places, counts, both};
+ghost use Rattle.capi.specs.handing.Pairs.{pairPlaces, wonPlaces};
 ghost use Rattle.capi.specs.Calls.{pairOf};
 
 #[no_mangle]
@@ -30,12 +30,12 @@ pub extern "C" fn jorghipa_pair(
         (both (places (now (distance .exit)) (now («witness_z» .exit)) (now («witness_radius» .exit)) (now (edge .exit)))
         (counts (now (boxes .exit)) (now (waiting .exit)) (now (cut .exit)))))) ⌝ }
 {
-    let number = lists::one_body_refusal(kind, numbers);
+    let number = crate::lists::one_body_refusal(kind, numbers);
     if number != 0 {
         return number;
     }
-    let answer = pairs::query_pair(chuck, work, lists::body_at(kind, numbers, 0));
-    handing::give_pair(
+    let answer = bodies::query_pair(chuck, work, crate::lists::body_at(kind, numbers, 0));
+    crate::handing::give_pair(
         answer,
         winner,
         distance,
@@ -72,8 +72,8 @@ pub extern "C" fn jorghipa_pair_convex(
         (both (places (now (distance .exit)) (now («witness_z» .exit)) (now («witness_radius» .exit)) (now (edge .exit)))
         (counts (now (boxes .exit)) (now (waiting .exit)) (now (cut .exit)))))) ⌝ }
 {
-    let answer = pairs::query_pair_convex(chuck, work, convex);
-    handing::give_pair(
+    let answer = bodies::query_pair_convex(chuck, work, convex);
+    crate::handing::give_pair(
         answer,
         winner,
         distance,

@@ -1,17 +1,17 @@
 // The verdicts: 1 collision, 0 clear.
 ghost use Rattle.arith.specs.Vector.{vec};
-ghost use Rattle.boxes.specs.Boxes.{aabb};
+ghost use Rattle.section.specs.boxes.Boxes.{aabb};
 ghost use Rattle.bodies.specs.declared.shapes.Body.the-variants as body·kinds;
-ghost use Rattle.verdicts.specs.Verdicts.{bodyVerdict, convexVerdict};
-ghost use Rattle.profile.specs.Vertices.{ball};
-ghost use Rattle.bands.specs.Band.{bar};
-ghost use Rattle.handing.specs.Interface.{Gives, Measures, counts, mark};
-ghost use Rattle.handing.specs.Walks.{judgedPlaces, walkPlaces};
-ghost use Rattle.walk_verdicts.specs.WalkVerdicts.{walkVerdict, FewCounted};
+ghost use Rattle.bodies.specs.verdicts.Verdicts.{bodyVerdict, convexVerdict};
+ghost use Rattle.section.specs.profile.Vertices.{ball};
+ghost use Rattle.walk.specs.bands.Band.{bar};
+ghost use Rattle.capi.specs.handing.Interface.{Gives, Measures, counts, mark};
+ghost use Rattle.capi.specs.handing.Walks.{judgedPlaces, walkPlaces};
+ghost use Rattle.bodies.specs.walk_verdicts.WalkVerdicts.{walkVerdict, FewCounted};
 use arith::Vec3;
-use bands::Cylinder;
-use profile::Aabb;
-use profile::Sphere;
+use section::Aabb;
+use section::Sphere;
+use walk::Cylinder;
 
 #[no_mangle]
 pub extern "C" fn jorghipa_verdict_sphere(
@@ -27,8 +27,8 @@ pub extern "C" fn jorghipa_verdict_sphere(
         r (now (collision .entry)) (now (collision .exit)) ⌝ }
 {
     let center = Vec3 { x, y, z };
-    let verdict = verdicts::verdict_sphere(section, Sphere { center, radius }, clearance);
-    handing::judge(verdict, collision)
+    let verdict = bodies::verdict_sphere(section, Sphere { center, radius }, clearance);
+    crate::handing::judge(verdict, collision)
 }
 
 #[no_mangle]
@@ -44,8 +44,8 @@ pub extern "C" fn jorghipa_verdict_box(
     ensures { λ r. ⌜ Gives mark (bodyVerdict (now (section .entry)) (body·kinds.Box (aabb z0 z1 r0 r1)) clearance)
         r (now (collision .entry)) (now (collision .exit)) ⌝ }
 {
-    let verdict = verdicts::verdict_box(section, Aabb { z0, z1, r0, r1 }, clearance);
-    handing::judge(verdict, collision)
+    let verdict = bodies::verdict_box(section, Aabb { z0, z1, r0, r1 }, clearance);
+    crate::handing::judge(verdict, collision)
 }
 
 #[no_mangle]
@@ -75,8 +75,8 @@ pub extern "C" fn jorghipa_verdict_cylinder(
         y: by,
         z: bz,
     };
-    let verdict = verdicts::verdict_cylinder(section, Cylinder { a, b, radius }, clearance);
-    handing::judge(verdict, collision)
+    let verdict = bodies::verdict_cylinder(section, Cylinder { a, b, radius }, clearance);
+    crate::handing::judge(verdict, collision)
 }
 
 #[no_mangle]
@@ -110,8 +110,8 @@ pub extern "C" fn jorghipa_verdict_walk(
         y: by,
         z: bz,
     };
-    let verdict = walk_verdicts::verdict_walk(section, Cylinder { a, b, radius }, clearance);
-    handing::give_walk(verdict, collision, boxes, waiting, cut)
+    let verdict = bodies::verdict_walk(section, Cylinder { a, b, radius }, clearance);
+    crate::handing::give_walk(verdict, collision, boxes, waiting, cut)
 }
 
 #[no_mangle]
@@ -124,6 +124,6 @@ pub extern "C" fn jorghipa_verdict_convex(
     ensures { λ r. ⌜ Gives mark (convexVerdict (now (convex .entry)) (now (section .entry)) clearance)
         r (now (collision .entry)) (now (collision .exit)) ⌝ }
 {
-    let verdict = verdicts::verdict_convex(section, convex, clearance);
-    handing::judge(verdict, collision)
+    let verdict = bodies::verdict_convex(section, convex, clearance);
+    crate::handing::judge(verdict, collision)
 }

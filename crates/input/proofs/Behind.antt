@@ -5,7 +5,7 @@ use mathlib.Core.List.{List, [], _++_}
 use mathlib.Core.Path.{_≡_}
 use lib.ListN.{length, take}
 use lib.Seq.{sets, length-take-le}
-use Rattle.store_listing.proofs.Writing.{nothing-written, then}
+use Rattle.listings.proofs.store_listing.Writing.{nothing-written, then}
 use Rattle.input.specs.Input.{ReadsOn, ReadsPiece}
 
 pub nothing-read : (l : List ℕ) (n : ℕ) → ReadsOn l n l n

@@ -8,6 +8,6 @@ fn main() {
     let mut buffer = [0u8; 20480];
     let length = input::read_on(&mut buffer, 0, usize::MAX);
     let mut text = [0u8; 28923];
-    let n = lister::list_input(&buffer, length, &mut text);
+    let n = listings::list_input(&buffer, length, &mut text);
     io::write_all(STDOUT_FILENO, &text[..n]);
 }

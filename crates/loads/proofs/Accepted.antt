@@ -10,10 +10,10 @@ use mathlib.Core.Path.{_≡_, refl, ap, ap₂, subst, _∙_}
 use lib.ListN.{length, length-append}
 use lib.Dec.{eqb, leb}
 use borrow.Author.Tests.{ne-eqb, lt-leb, le-ltb}
-use Rattle.profile.specs.Refusals.{refusal, anyOf}
-use Rattle.profile.proofs.Each.{All, nil, cons}
-use Rattle.profile.proofs.Refusals.Passed.{NumberTaken, passed}
-use Rattle.roots.proofs.Numbers.{decide}
+use Rattle.section.specs.profile.Refusals.{refusal, anyOf}
+use Rattle.section.proofs.profile.Each.{All, nil, cons}
+use Rattle.section.proofs.profile.Refusals.Passed.{NumberTaken, passed}
+use Rattle.arith.proofs.roots.Numbers.{decide}
 use Rattle.store.specs.Records.{records, next, number}
 use Rattle.store.specs.Chain.{whole, member, follow, chain, inOrder}
 use Rattle.store.specs.First.{firstRefused}

@@ -8,13 +8,13 @@ use lib.ListN.{length, take, drop, length-append}
 use lib.Seq.{take-at}
 use lib.Dec.{T, eqb, ltb}
 use borrow.Author.Tests.{ltb-false}
-use Rattle.profile.specs.Refusals.{refusal}
-use Rattle.profile.specs.Replies.{Reply, value, turned-down, reply}
-use Rattle.profile.proofs.Each.{All, nil, cons}
-use Rattle.profile.proofs.Refusals.Ordered.{Passes, none-applies}
-use Rattle.store_listing.specs.Listing.{Prints}
-use Rattle.store_listing.specs.Steps.{Written}
-use Rattle.store_listing.proofs.Writing.{front-written}
+use Rattle.section.specs.profile.Refusals.{refusal}
+use Rattle.section.specs.profile.Replies.{Reply, value, turned-down, reply}
+use Rattle.section.proofs.profile.Each.{All, nil, cons}
+use Rattle.section.proofs.profile.Refusals.Ordered.{Passes, none-applies}
+use Rattle.listings.specs.store_listing.Listing.{Prints}
+use Rattle.listings.specs.store_listing.Steps.{Written}
+use Rattle.listings.proofs.store_listing.Writing.{front-written}
 use Rattle.loads.specs.Load.{load, loadTests, loadAnswer, LoadWritten}
 use Rattle.loads.specs.Printed.{bytesLine, refusedLine, loadText}
 use Rattle.loads.specs.declared.answers.LoadAnswer.{LoadAnswer}

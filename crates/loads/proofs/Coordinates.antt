@@ -18,7 +18,7 @@ use lib.Ieee.Scale.{round-same}
 use borrow.Author.Tests.{ltb-true, ltb-false, lt-ltb, le-ltb}
 use Rattle.arith.specs.F64.{_⊖_, _⊘_, _≺_, 𝟘, e-9, limit}
 use Rattle.arith.specs.Num.{abs, isFinite}
-use Rattle.profile.proofs.Refusals.Passed.{NumberTaken}
+use Rattle.section.proofs.profile.Refusals.Passed.{NumberTaken}
 use Rattle.loads.specs.Load.{middle, sixty-four, coordinate}
 
 -- x is `many` sixty-fourths, at most 16,384 in magnitude; no zero is negative

@@ -5,10 +5,10 @@ use native.Mathlib.Omega.{arith}
 use mathlib.Core.List.{List, [], _∷_, flatMap}
 use mathlib.Core.Path.{_≡_, refl}
 use lib.ListN.{length, take, getD, length-append}
-use Rattle.store_listing.specs.Text.{text, hex}
-use Rattle.store_listing.specs.Steps.{Written}
-use Rattle.store_listing.proofs.Digits.{length-hex, few-digits}
-use Rattle.store_listing.proofs.Pieces.{line-room}
+use Rattle.listings.specs.store_listing.Text.{text, hex}
+use Rattle.listings.specs.store_listing.Steps.{Written}
+use Rattle.listings.proofs.store_listing.Digits.{length-hex, few-digits}
+use Rattle.listings.proofs.store_listing.Pieces.{line-room}
 use Rattle.loads.specs.Printed.{bytesLine, refusedLine}
 
 pub digits-room :

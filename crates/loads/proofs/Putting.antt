@@ -11,9 +11,9 @@ use lib.Seq.{sets, length-sets}
 use Rattle.store.specs.Bytes.{lowBytes}
 use Rattle.store.specs.Records.{recordBytes}
 use Rattle.store.proofs.ReadBack.{length-record}
-use Rattle.store_listing.specs.Listing.{Prints}
-use Rattle.store_listing.specs.Steps.{Written}
-use Rattle.store_listing.proofs.Writing.{then, nothing-written, front-written}
+use Rattle.listings.specs.store_listing.Listing.{Prints}
+use Rattle.listings.specs.store_listing.Steps.{Written}
+use Rattle.listings.proofs.store_listing.Writing.{then, nothing-written, front-written}
 use Rattle.loads.specs.Xorshift.{xorshift, stateAfter}
 use Rattle.loads.specs.Load.{coordinateBits, radiusBits, vertexRecord, sphereNext, sphereRecord, upTo}
 use Rattle.loads.specs.Load.{loadVertices, loadSpheres, load}

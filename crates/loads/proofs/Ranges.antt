@@ -6,16 +6,16 @@ use mathlib.Core.List.{List, _++_}
 use mathlib.Core.Path.{_≡_, _∙_}
 use lib.Ieee.{Float}
 use Rattle.arith.specs.F64.{𝟘}
-use Rattle.profile.specs.Refusals.{refusal, notFinite, overLimit, numberTests, radiusTests, sphereNumbers}
-use Rattle.profile.specs.Replies.{value}
-use Rattle.profile.proofs.Each.{All, nil, cons, all-map, found-none}
-use Rattle.profile.proofs.Refusals.Ordered.{all-pass}
-use Rattle.profile.proofs.Refusals.Passed.{NumberTaken}
-use Rattle.points.specs.Points.{sphereDistance}
+use Rattle.section.specs.profile.Refusals.{refusal, notFinite, overLimit, numberTests, radiusTests, sphereNumbers}
+use Rattle.section.specs.profile.Replies.{value}
+use Rattle.section.proofs.profile.Each.{All, nil, cons, all-map, found-none}
+use Rattle.section.proofs.profile.Refusals.Ordered.{all-pass}
+use Rattle.section.proofs.profile.Refusals.Passed.{NumberTaken}
+use Rattle.section.specs.points.Points.{sphereDistance}
 use Rattle.store.specs.Records.{number}
 use Rattle.store.specs.Store.{vertices, chained}
-use Rattle.store_listing.specs.Listing.{sphereAt, bodyAnswer}
-use Rattle.store_listing.proofs.Own.{body-own}
+use Rattle.listings.specs.store_listing.Listing.{sphereAt, bodyAnswer}
+use Rattle.listings.proofs.store_listing.Own.{body-own}
 use Rattle.loads.specs.Load.{load}
 use Rattle.loads.proofs.Accepted.{load-accepted}
 use Rattle.loads.proofs.Coordinates.{Sixtyfourths, coordinate-ranged, radius-ranged, number-taken, radius-above}

@@ -5,8 +5,8 @@ use mathlib.Core.List.{List, [], _∷_, _++_, flatMap, append-assoc, append-nil}
 use mathlib.Core.Logic.{_⊎_, inl, inr}
 use mathlib.Core.Path.{_≡_, sym, ap, _∙_}
 use lib.ListN.{length, length-append}
-use Rattle.profile.proofs.Each.{All, nil, cons, all-append}
-use Rattle.roots.proofs.Numbers.{decide}
+use Rattle.section.proofs.profile.Each.{All, nil, cons, all-append}
+use Rattle.arith.proofs.roots.Numbers.{decide}
 use Rattle.store.proofs.Lists.{flatMap-append}
 use Rattle.loads.specs.Load.{upTo}
 

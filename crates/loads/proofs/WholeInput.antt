@@ -9,7 +9,7 @@ use lib.ListN.{length, take}
 use lib.Seq.{take-all}
 use lib.Dec.{eqb}
 use borrow.Author.Tests.{eqb-true}
-use Rattle.profile.specs.Refusals.{refusal}
+use Rattle.section.specs.profile.Refusals.{refusal}
 use Rattle.store.specs.Bytes.{littleEndian}
 use Rattle.loads.specs.Load.{loadAnswer}
 use Rattle.loads.specs.Printed.{loadText, seedOf, inputText, printed}

@@ -9,8 +9,8 @@ use lib.IntN.{pos}
 use lib.Ieee.{Float, binary64, ofInt, ofBits, toBits}
 use Rattle.arith.specs.F64.{_⊖_, _⊘_}
 use Rattle.arith.specs.Num.{abs}
-use Rattle.profile.specs.Refusals.{Test, _when_, refusal}
-use Rattle.profile.specs.Replies.{Reply, value, turned-down, reply, mapped}
+use Rattle.section.specs.profile.Refusals.{Test, _when_, refusal}
+use Rattle.section.specs.profile.Replies.{Reply, value, turned-down, reply, mapped}
 use Rattle.store.specs.Records.{recordBytes}
 use Rattle.loads.specs.Xorshift.{xorshift, stateAfter}
 use Rattle.loads.specs.declared.answers.LoadAnswer.{LoadAnswer}

@@ -4,9 +4,9 @@ use mathlib.Core.Bool.{cond}
 use mathlib.Core.List.{List, _++_, flatMap}
 use lib.ListN.{length}
 use lib.Dec.{eqb}
-use Rattle.profile.specs.Replies.{Reply, value, turned-down}
+use Rattle.section.specs.profile.Replies.{Reply, value, turned-down}
 use Rattle.store.specs.Bytes.{littleEndian}
-use Rattle.store_listing.specs.Text.{text, decimal, hex}
+use Rattle.listings.specs.store_listing.Text.{text, decimal, hex}
 use Rattle.loads.specs.Load.{loadAnswer}
 
 unfoldable pub bytesLine : List ℕ → List ℕ

@@ -4,7 +4,7 @@ ghost use Prim.Native.Nat.{_+_, _≤_};
 ghost use lib.ListN.{length};
 ghost use Rattle.store.specs.Bytes.{lowBytes};
 ghost use Rattle.store.specs.Records.{recordBytes};
-ghost use Rattle.store_listing.specs.Steps.{Written};
+ghost use Rattle.listings.specs.store_listing.Steps.{Written};
 
 // The k low bytes of n, the lowest first.
 fn put_bytes(space: &mut [u8], at: usize, n: u64, k: usize) -> usize

@@ -4,17 +4,17 @@ ghost use mathlib.Core.Path.{_≡_};
 ghost use mathlib.Core.List.{flatMap};
 ghost use Prim.Native.Nat.{_+_, _≤_};
 ghost use lib.ListN.{length};
-ghost use Rattle.store_listing.specs.Text.{hex};
-ghost use Rattle.store_listing.specs.Listing.{Prints};
-ghost use Rattle.store_listing.specs.Steps.{Written};
+ghost use Rattle.listings.specs.store_listing.Text.{hex};
+ghost use Rattle.listings.specs.store_listing.Listing.{Prints};
+ghost use Rattle.listings.specs.store_listing.Steps.{Written};
 ghost use Rattle.loads.specs.Load.{loadAnswer};
 ghost use Rattle.loads.specs.Printed.{bytesLine, refusedLine, loadText, seedOf, inputText};
 use super::answers::LoadAnswer;
 use super::writer::write_load;
+use listings::put_decimal;
+use listings::put_hex;
+use listings::put_word;
 use store::u64_at;
-use store_listing::put_decimal;
-use store_listing::put_hex;
-use store_listing::put_word;
 
 fn put_digits(bytes: &[u8], text: &mut [u8]) -> usize
     requires { ⌜ length (flatMap (hex 2) (now bytes)) ≤ length (now text) ⌝ }

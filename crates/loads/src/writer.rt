@@ -2,10 +2,10 @@
 ghost use mathlib.Core.Path.{_≡_};
 ghost use Prim.Native.Nat.{_≤_};
 ghost use lib.ListN.{length};
-ghost use Rattle.profile.specs.Refusals.{refusal};
+ghost use Rattle.section.specs.profile.Refusals.{refusal};
 ghost use Rattle.loads.specs.Load.{loadTests, loadAnswer, LoadWritten};
 ghost use Rattle.loads.specs.Load as load·specs;
-ghost use Rattle.store_listing.specs.Listing.{Prints};
+ghost use Rattle.listings.specs.store_listing.Listing.{Prints};
 use super::answers::LoadAnswer;
 use super::fields::put_record;
 use super::runs::put_spheres;

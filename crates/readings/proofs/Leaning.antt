@@ -7,24 +7,24 @@ use lib.IntN.{negsuc}
 use lib.Ieee.{Float, fin, ofInt, neg, add, sub, mul, div, lt, le, ofBits}
 use Rattle.arith.specs.Num.{isFinite}
 use Rattle.arith.specs.Vector.{vec}
-use Rattle.roots.specs.Roots.{sqrt, hypot}
-use Rattle.profile.specs.Vertices.{upto, any}
-use Rattle.profile.specs.Refusals.{anyBelowAxis, refusal, anyOf}
-use Rattle.profile.specs.Replies.{Reply, value}
-use Rattle.segments.specs.Segments.{closestPoint, closest, closestPlaces, segments}
-use Rattle.segments.specs.Clip.{clipSide, clip}
-use Rattle.points.specs.Points.{surfaceStep, surfaceNear, crosses, pointInside, insideAxisEdge, inSection, pointDistance}
-use Rattle.points.specs.Overlap.{resultOf}
-use Rattle.boxes.specs.Boxes.{edgeBox, strictlyInsideAabb, segmentThroughInterior, boxGap, boxPenetration, boxWitness}
-use Rattle.boxes.specs.Boxes.{boxHolds, boxDistance}
-use Rattle.builders.specs.Builder.{samePoint, keep, keptPoints, sectionOf}
-use Rattle.bands.specs.Axis.{axisDir, axis}
-use Rattle.bands.specs.Band.{bar, axialBox, bandOf, halfWidth, spanAt}
-use Rattle.bands.specs.declared.shapes.Cylinder.{Cylinder}
+use Rattle.arith.specs.roots.Roots.{sqrt, hypot}
+use Rattle.section.specs.profile.Vertices.{upto, any}
+use Rattle.section.specs.profile.Refusals.{anyBelowAxis, refusal, anyOf}
+use Rattle.section.specs.profile.Replies.{Reply, value}
+use Rattle.section.specs.segments.Segments.{closestPoint, closest, closestPlaces, segments}
+use Rattle.section.specs.segments.Clip.{clipSide, clip}
+use Rattle.section.specs.points.Points.{surfaceStep, surfaceNear, crosses, pointInside, insideAxisEdge, inSection, pointDistance}
+use Rattle.section.specs.points.Overlap.{resultOf}
+use Rattle.section.specs.boxes.Boxes.{edgeBox, strictlyInsideAabb, segmentThroughInterior, boxGap, boxPenetration, boxWitness}
+use Rattle.section.specs.boxes.Boxes.{boxHolds, boxDistance}
+use Rattle.section.specs.builders.Builder.{samePoint, keep, keptPoints, sectionOf}
+use Rattle.walk.specs.bands.Axis.{axisDir, axis}
+use Rattle.walk.specs.bands.Band.{bar, axialBox, bandOf, halfWidth, spanAt}
+use Rattle.walk.specs.declared.bands.shapes.Cylinder.{Cylinder}
 use Rattle.walk.specs.Walk.{bandDistance}
-use Rattle.cylinders.specs.Cylinders.{cylinderDistance}
+use Rattle.walk.specs.cylinders.Cylinders.{cylinderDistance}
 use Rattle.bodies.specs.declared.shapes.Body.the-variants as body·kinds
-use Rattle.verdicts.specs.Verdicts.{bodyVerdict}
+use Rattle.bodies.specs.verdicts.Verdicts.{bodyVerdict}
 use Rattle.readings.proofs.Readings.{S, mm}
 
 -- the ends stand (3/64, 1/16) apart across the spindle, so 5/64; the distance is 3

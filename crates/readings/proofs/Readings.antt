@@ -8,35 +8,35 @@ use lib.IntN.{pos, negsuc}
 use lib.Ieee.{Float, nan, fin, binary64, ofInt, neg, add, sub, mul, div, lt, le, ofBits}
 use Rattle.arith.specs.F64.{∞, e-8, e-9}
 use Rattle.arith.specs.Num.{isFinite}
-use Rattle.roots.specs.Roots.{sqrt, hypot}
+use Rattle.arith.specs.roots.Roots.{sqrt, hypot}
 use Rattle.arith.specs.Vector.{vec}
 use Rattle.arith.specs.declared.vector.Vec3.{Vec3}
-use Rattle.profile.specs.Vertices.{ball, witness, on, hit, upto, any, vertexAt}
-use Rattle.segments.specs.Segments.{closestPoint, closest, closestPlaces, segments}
-use Rattle.points.specs.Points.{surfaceStep, surfaceNear, crosses, pointInside, insideAxisEdge, inSection}
-use Rattle.points.specs.Points.{pointDistance, sphereDistance}
-use Rattle.segments.specs.Clip.{clipSide, clip}
-use Rattle.boxes.specs.Boxes.{edgeBox, strictlyInsideAabb, segmentThroughInterior, boxGap, boxPenetration, boxWitness}
-use Rattle.boxes.specs.Boxes.{boxHolds, boxDistance, aabb}
-use Rattle.points.specs.Overlap.{resultOf}
-use Rattle.builders.specs.Builder.{samePoint, keep, keptPoints, sectionOf, polygonOf}
-use Rattle.profile.specs.Refusals.{refusal, anyOf, anyBelowAxis}
-use Rattle.profile.specs.Replies.{Reply, value, turned-down}
+use Rattle.section.specs.profile.Vertices.{ball, witness, on, hit, upto, any, vertexAt}
+use Rattle.section.specs.segments.Segments.{closestPoint, closest, closestPlaces, segments}
+use Rattle.section.specs.points.Points.{surfaceStep, surfaceNear, crosses, pointInside, insideAxisEdge, inSection}
+use Rattle.section.specs.points.Points.{pointDistance, sphereDistance}
+use Rattle.section.specs.segments.Clip.{clipSide, clip}
+use Rattle.section.specs.boxes.Boxes.{edgeBox, strictlyInsideAabb, segmentThroughInterior, boxGap, boxPenetration, boxWitness}
+use Rattle.section.specs.boxes.Boxes.{boxHolds, boxDistance, aabb}
+use Rattle.section.specs.points.Overlap.{resultOf}
+use Rattle.section.specs.builders.Builder.{samePoint, keep, keptPoints, sectionOf, polygonOf}
+use Rattle.section.specs.profile.Refusals.{refusal, anyOf, anyBelowAxis}
+use Rattle.section.specs.profile.Replies.{Reply, value, turned-down}
 use Rattle.section.specs.Answers.{pointAnswer, sphereAnswer, boxAnswer}
-use Rattle.builders.specs.Kept.{sectionAnswer, polygonAnswer}
-use Rattle.bands.specs.Axis.{axisDir, axis}
-use Rattle.bands.specs.Band.{bar, axialBox, bandOf, halfWidth, spanAt}
-use Rattle.pieces.specs.Pieces.{widest, narrowest, pieceBox, variation}
+use Rattle.section.specs.builders.Kept.{sectionAnswer, polygonAnswer}
+use Rattle.walk.specs.bands.Axis.{axisDir, axis}
+use Rattle.walk.specs.bands.Band.{bar, axialBox, bandOf, halfWidth, spanAt}
+use Rattle.walk.specs.pieces.Pieces.{widest, narrowest, pieceBox, variation}
 use Rattle.walk.specs.Walk.{sampleVertex, sampled, walk, walkAll, bandDistance}
-use Rattle.settings.specs.Settings.{finest, settings}
-use Rattle.settings.specs.declared.shapes.Settings.{Settings}
-use Rattle.cylinders.specs.Cylinders.{cylinderDistance, cylinderAnswer}
-use Rattle.bands.specs.declared.shapes.Cylinder.{Cylinder}
+use Rattle.walk.specs.settings.Settings.{finest, settings}
+use Rattle.walk.specs.declared.settings.shapes.Settings.{Settings}
+use Rattle.walk.specs.cylinders.Cylinders.{cylinderDistance, cylinderAnswer}
+use Rattle.walk.specs.declared.bands.shapes.Cylinder.{Cylinder}
 use Rattle.walk.specs.declared.shapes.CountedHit.{CountedHit}
-use Rattle.profile.specs.declared.shapes.Vertex.{Vertex}
-use Rattle.profile.specs.declared.shapes.Aabb.{Aabb}
-use Rattle.profile.specs.declared.shapes.Sphere.{Sphere}
-use Rattle.profile.specs.declared.shapes.CollisionHit.{CollisionHit}
+use Rattle.section.specs.declared.profile.shapes.Vertex.{Vertex}
+use Rattle.section.specs.declared.profile.shapes.Aabb.{Aabb}
+use Rattle.section.specs.declared.profile.shapes.Sphere.{Sphere}
+use Rattle.section.specs.declared.profile.shapes.CollisionHit.{CollisionHit}
 
 abbrev pub mm : ℕ → Float
 mm n = ofInt binary64 (pos n)

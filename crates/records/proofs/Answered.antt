@@ -11,17 +11,17 @@ use lib.Seq.{take-all}
 use lib.Ieee.{Float}
 use borrow.Author.Tests.{ne-eqb, le-ltb, lt-ltb}
 use Rattle.arith.specs.declared.vector.Vec3.{Vec3}
-use Rattle.roots.proofs.Numbers.{decide}
+use Rattle.arith.proofs.roots.Numbers.{decide}
 use Rattle.section.specs.Answers.{pointAnswer, sphereAnswer, boxAnswer}
-use Rattle.profile.specs.Refusals.{Test, refusal, anyOf, odd, fewer, more, givenTests}
-use Rattle.profile.specs.Vertices.{count}
-use Rattle.profile.specs.declared.shapes.Aabb.{Aabb}
+use Rattle.section.specs.profile.Refusals.{Test, refusal, anyOf, odd, fewer, more, givenTests}
+use Rattle.section.specs.profile.Vertices.{count}
+use Rattle.section.specs.declared.profile.shapes.Aabb.{Aabb}
 use Rattle.section.specs.declared.shapes.Answer.the-variants as answers
-use Rattle.profile.specs.declared.shapes.Sphere.{Sphere}
-use Rattle.profile.specs.declared.shapes.Vertex.{Vertex}
-use Rattle.cylinders.specs.Cylinders.{cylinderAnswer}
-use Rattle.bands.specs.declared.shapes.Cylinder.{Cylinder}
-use Rattle.cylinders.specs.declared.shapes.CountedAnswer.the-variants as cylinder-answers
+use Rattle.section.specs.declared.profile.shapes.Sphere.{Sphere}
+use Rattle.section.specs.declared.profile.shapes.Vertex.{Vertex}
+use Rattle.walk.specs.cylinders.Cylinders.{cylinderAnswer}
+use Rattle.walk.specs.declared.bands.shapes.Cylinder.{Cylinder}
+use Rattle.walk.specs.declared.cylinders.shapes.CountedAnswer.the-variants as cylinder-answers
 use Rattle.records.specs.Flattened.{flattened}
 use Rattle.records.specs.Steps.{OfFront, OfPoint, OfSphere, OfBox, OfCylinder}
 use Rattle.records.proofs.FrontFilled.{FrontFilled}

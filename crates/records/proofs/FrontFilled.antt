@@ -11,7 +11,7 @@ use lib.ListN.{length, getD, set, take, length-set}
 use lib.Seq.{take-suc, take-suc-set}
 use lib.Ieee.{Float}
 use borrow.Author.Tests.{ltb-true, ltb-false}
-use Rattle.profile.specs.declared.shapes.Vertex.{Vertex}
+use Rattle.section.specs.declared.profile.shapes.Vertex.{Vertex}
 use Rattle.records.specs.Flattened.{flattened}
 use Rattle.records.specs.Steps.{stored, next}
 

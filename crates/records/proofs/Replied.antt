@@ -6,10 +6,10 @@ use mathlib.Core.Logic.{_⊎_, inl, inr}
 use mathlib.Core.Path.{_≡_, _∙_, ap, subst, sym}
 use lib.ListN.{length, take}
 use lib.Ieee.{Float}
-use Rattle.roots.proofs.Numbers.{decide}
-use Rattle.profile.specs.Replies.{Reply, turned-down, Answers, OfValue}
-use Rattle.profile.proofs.Replies.{owed}
-use Rattle.profile.specs.declared.shapes.Vertex.{Vertex}
+use Rattle.arith.proofs.roots.Numbers.{decide}
+use Rattle.section.specs.profile.Replies.{Reply, turned-down, Answers, OfValue}
+use Rattle.section.proofs.profile.Replies.{owed}
+use Rattle.section.specs.declared.profile.shapes.Vertex.{Vertex}
 use Rattle.records.specs.Flattened.{flattened}
 use Rattle.records.specs.Replies.{pointOf, sphereOf, boxOf, cylinderOf, cReply, cCylinderReply}
 use Rattle.records.specs.Steps.{OfFront, OfPlace, OfBall, OfBounds, OfBar}

@@ -3,14 +3,14 @@ use mathlib.Core.Bool.{false}
 use Rattle.arith.specs.F64.{𝟘}
 use Rattle.arith.specs.Vector.{vec}
 use Rattle.arith.specs.declared.vector.Vec3.{Vec3}
-use Rattle.profile.specs.Vertices.{ball}
-use Rattle.boxes.specs.Boxes.{aabb}
-use Rattle.bands.specs.Band.{bar}
-use Rattle.profile.specs.Replies.{Reply, value, turned-down}
-use Rattle.profile.specs.declared.shapes.Aabb.{Aabb}
-use Rattle.profile.specs.declared.shapes.CollisionHit.{CollisionHit}
-use Rattle.profile.specs.declared.shapes.Sphere.{Sphere}
-use Rattle.bands.specs.declared.shapes.Cylinder.{Cylinder}
+use Rattle.section.specs.profile.Vertices.{ball}
+use Rattle.section.specs.boxes.Boxes.{aabb}
+use Rattle.walk.specs.bands.Band.{bar}
+use Rattle.section.specs.profile.Replies.{Reply, value, turned-down}
+use Rattle.section.specs.declared.profile.shapes.Aabb.{Aabb}
+use Rattle.section.specs.declared.profile.shapes.CollisionHit.{CollisionHit}
+use Rattle.section.specs.declared.profile.shapes.Sphere.{Sphere}
+use Rattle.walk.specs.declared.bands.shapes.Cylinder.{Cylinder}
 use Rattle.walk.specs.declared.shapes.CountedHit.{CountedHit}
 use Rattle.records.specs.declared.replies.Ball.{Ball}
 use Rattle.records.specs.declared.replies.Bar.{Bar}

@@ -9,16 +9,16 @@ use lib.Ieee.{Float}
 use Rattle.arith.specs.declared.vector.Vec3.{Vec3}
 use Rattle.section.specs.Answers.{told, pointAnswer, sphereAnswer, boxAnswer}
 use Rattle.section.specs.Demand.{Bounded, BoundedOffAxis, FewEdges}
-use Rattle.profile.specs.Replies.{Answers}
-use Rattle.profile.specs.declared.shapes.Aabb.{Aabb}
+use Rattle.section.specs.profile.Replies.{Answers}
+use Rattle.section.specs.declared.profile.shapes.Aabb.{Aabb}
 use Rattle.section.specs.declared.shapes.Answer.{Answer}
-use Rattle.profile.specs.declared.shapes.Sphere.{Sphere}
-use Rattle.profile.specs.declared.shapes.Vertex.{Vertex}
-use Rattle.cylinders.specs.Promised.{Promised}
-use Rattle.cylinders.specs.Cylinders.{told as cylinderTold, cylinderAnswer}
-use Rattle.bands.specs.declared.shapes.Cylinder.{Cylinder}
-use Rattle.settings.specs.Settings.{finest}
-use Rattle.cylinders.specs.declared.shapes.CountedAnswer.{CountedAnswer}
+use Rattle.section.specs.declared.profile.shapes.Sphere.{Sphere}
+use Rattle.section.specs.declared.profile.shapes.Vertex.{Vertex}
+use Rattle.walk.specs.cylinders.Promised.{Promised}
+use Rattle.walk.specs.cylinders.Cylinders.{told as cylinderTold, cylinderAnswer}
+use Rattle.walk.specs.declared.bands.shapes.Cylinder.{Cylinder}
+use Rattle.walk.specs.settings.Settings.{finest}
+use Rattle.walk.specs.declared.cylinders.shapes.CountedAnswer.{CountedAnswer}
 use Rattle.walk.specs.declared.shapes.CountedHit.{CountedHit}
 use Rattle.records.specs.Replies.{pointOf, sphereOf, boxOf, cylinderOf, cReply, cCylinderReply}
 use Rattle.records.specs.declared.replies.Ball.{Ball}

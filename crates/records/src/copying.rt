@@ -3,7 +3,7 @@ ghost use mathlib.Core.Path.{_≡_};
 ghost use Prim.Native.Nat.{_*_, _≤_};
 ghost use lib.ListN.{length};
 ghost use Rattle.records.specs.Steps.{stored, next};
-use profile::Vertex;
+use section::Vertex;
 
 // What stands in it does not matter: only the front that was written is read.
 pub fn blank() -> [f64; 512]

@@ -1,10 +1,10 @@
 // The C interface over vertex records: the section as a pointer to them and their count, the body and
 // the answer as records too. jorghipa_records.h declares it and says what the caller owes.
 ghost use mathlib.Core.Path.{_≡_};
-ghost use Rattle.profile.specs.Replies.{turned-down};
+ghost use Rattle.section.specs.profile.Replies.{turned-down};
 ghost use Rattle.section.specs.Answers.{pointAnswer, sphereAnswer, boxAnswer};
-ghost use Rattle.cylinders.specs.Cylinders.{cylinderAnswer};
-ghost use Rattle.settings.specs.Settings.{finest};
+ghost use Rattle.walk.specs.cylinders.Cylinders.{cylinderAnswer};
+ghost use Rattle.walk.specs.settings.Settings.{finest};
 ghost use Rattle.records.specs.Flattened.{flattened};
 ghost use Rattle.records.specs.Replies.{pointOf, sphereOf, boxOf, cylinderOf, cReply, cCylinderReply};
 ghost use Rattle.records.specs.Steps.{OfFront, OfPlace, OfBall, OfBounds, OfBar};
@@ -26,7 +26,7 @@ use super::replies::cylinder_reply_of;
 use super::replies::point_of;
 use super::replies::reply_of;
 use super::replies::sphere_of;
-use profile::Vertex;
+use section::Vertex;
 
 fn point_reply(items: &[f64; 512], n: usize, place: Place) -> Reply
     ensures { λ r. ⌜ OfFront (OfPlace place) (cReply (turned-down 3)) (now (items .entry)) n r ⌝ }

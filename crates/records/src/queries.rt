@@ -1,25 +1,25 @@
 // The queries over vertex records, each beside the function that asks the core on the array's front
 // once they are copied; more than 256 are turned down there. They ask nothing of the caller.
-ghost use Rattle.profile.specs.Replies.{Answers};
+ghost use Rattle.section.specs.profile.Replies.{Answers};
 ghost use Rattle.section.specs.Answers.{told, pointAnswer, sphereAnswer, boxAnswer};
 ghost use Rattle.section.specs.Demand.{Bounded, BoundedOffAxis};
-ghost use Rattle.cylinders.specs.Cylinders.{told as cylinderTold, cylinderAnswer};
-ghost use Rattle.cylinders.specs.Promised.{Promised};
-ghost use Rattle.settings.specs.Settings.{finest};
+ghost use Rattle.walk.specs.cylinders.Cylinders.{told as cylinderTold, cylinderAnswer};
+ghost use Rattle.walk.specs.cylinders.Promised.{Promised};
+ghost use Rattle.walk.specs.settings.Settings.{finest};
 ghost use Rattle.records.specs.Flattened.{flattened};
 ghost use Rattle.records.specs.Steps.{OfFront, OfPoint, OfSphere, OfBox, OfCylinder};
 ghost use Rattle.section.specs.declared.shapes.Answer.the-variants as answers;
-ghost use Rattle.cylinders.specs.declared.shapes.CountedAnswer.the-variants as cylinder-answers;
+ghost use Rattle.walk.specs.declared.cylinders.shapes.CountedAnswer.the-variants as cylinder-answers;
 use super::copying::blank;
 use super::copying::numbers_of;
 use super::copying::put;
 use arith::Vec3;
-use bands::Cylinder;
-use cylinders::CountedAnswer;
-use profile::Aabb;
-use profile::Sphere;
-use profile::Vertex;
+use section::Aabb;
 use section::Answer;
+use section::Sphere;
+use section::Vertex;
+use walk::CountedAnswer;
+use walk::Cylinder;
 
 pub fn point_front(items: &[f64; 512], n: usize, point: Vec3) -> Answer
     ensures { λ r. ⌜ OfFront (OfPoint point) (answers.Refused 3) (now (items .entry)) n r ⌝ }
@@ -98,7 +98,7 @@ pub fn cylinder_front(items: &[f64; 512], n: usize, cylinder: Cylinder) -> Count
     }
     let end = numbers_of(n);
     let all = &items[..];
-    cylinders::query_cylinder(&all[..end], cylinder, settings::finest())
+    walk::query_cylinder(&all[..end], cylinder, walk::finest())
 }
 
 pub fn query_cylinder_of(section: &[Vertex], cylinder: Cylinder) -> CountedAnswer

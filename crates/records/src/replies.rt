@@ -1,17 +1,17 @@
 // Bodies and answers as the C interface has them: records of numbers, as C lays them out.
 ghost use mathlib.Core.Path.{_≡_};
-ghost use Rattle.profile.specs.Replies.{OfValue};
+ghost use Rattle.section.specs.profile.Replies.{OfValue};
 ghost use Rattle.section.specs.Answers.{told};
 ghost use Rattle.section.specs.Demand.{FewEdges};
-ghost use Rattle.cylinders.specs.Cylinders.{told as cylinderTold};
+ghost use Rattle.walk.specs.cylinders.Cylinders.{told as cylinderTold};
 ghost use Rattle.records.specs.Replies as replies;
 ghost use Rattle.records.specs.Steps.{FewEdgesOf};
 use arith::Vec3;
-use bands::Cylinder;
-use cylinders::CountedAnswer;
-use profile::Aabb;
-use profile::Sphere;
+use section::Aabb;
 use section::Answer;
+use section::Sphere;
+use walk::CountedAnswer;
+use walk::Cylinder;
 
 #[repr(C)]
 pub struct Place {

@@ -7,14 +7,14 @@ ghost use Rattle.replay.specs.Replies.{kept};
 use super::bits::pattern;
 use super::table::Kind;
 use arith::Vec3;
-use bands::Cylinder;
-use builders::Kept;
-use cylinders::CountedAnswer;
-use profile::Aabb;
-use profile::Sphere;
+use bodies::Verdict;
+use section::Aabb;
 use section::Answer;
-use settings::Settings;
-use verdicts::Verdict;
+use section::Kept;
+use section::Sphere;
+use walk::CountedAnswer;
+use walk::Cylinder;
+use walk::Settings;
 
 // What every number of a builder's space is before the call.
 pub const BLANK: f64 = 100.0;
@@ -175,16 +175,16 @@ fn plain(letter: u8, s: &[f64], t: &[f64], v: &[f64; 16], space: &mut [f64]) -> 
         b's' => hit(section::query_sphere(s, sphere(v))),
         b'b' => hit(section::aabb_polygon_distance(v[0], v[1], v[2], v[3], s)),
         b'c' => hit(section::convex_polygon_distance(s, t)),
-        b'y' => walked(cylinders::query_cylinder(s, cylinder(v), settings::finest())),
+        b'y' => walked(walk::query_cylinder(s, cylinder(v), walk::finest())),
         b'S' => {
-            let part = builders::try_from_section(s, space).len();
-            built(builders::write_section(s, space), part, space)
+            let part = section::try_from_section(s, space).len();
+            built(section::write_section(s, space), part, space)
         }
         b'P' => {
-            let part = builders::try_from_polygon(s, space).len();
-            built(builders::write_polygon(s, space), part, space)
+            let part = section::try_from_polygon(s, space).len();
+            built(section::write_polygon(s, space), part, space)
         }
-        b'w' => walked(cylinders::query_cylinder(s, cylinder(v), settings(v))),
+        b'w' => walked(walk::query_cylinder(s, cylinder(v), settings(v))),
         _ => Reply::Malformed,
     }
 }
@@ -194,10 +194,10 @@ fn verdict(letter: u8, s: &[f64], t: &[f64], v: &[f64; 16]) -> Reply
     ensures { λ r. ⌜ kept r ≡ 0 ⌝ }
 {
     match letter {
-        b's' => judged(verdicts::verdict_sphere(s, sphere(v), v[4])),
-        b'b' => judged(verdicts::verdict_box(s, aabb(v), v[4])),
-        b'c' => judged(verdicts::verdict_convex(t, s, v[0])),
-        b'y' => judged(verdicts::verdict_cylinder(s, cylinder(v), v[7])),
+        b's' => judged(bodies::verdict_sphere(s, sphere(v), v[4])),
+        b'b' => judged(bodies::verdict_box(s, aabb(v), v[4])),
+        b'c' => judged(bodies::verdict_convex(t, s, v[0])),
+        b'y' => judged(bodies::verdict_cylinder(s, cylinder(v), v[7])),
         _ => Reply::Malformed,
     }
 }

@@ -5,15 +5,15 @@ use lib.Ieee.{Float, binary64, fits, isNan, neg, ofBits}
 use Rattle.arith.specs.F64.{_≺_, _≼_, 𝟘, ∞, e-9, e-12}
 use Rattle.arith.proofs.Laws.OrderHeld.{number-held}
 use Rattle.arith.proofs.Laws.Sizes.{Number, cond-keeps, zero-number}
-use Rattle.profile.specs.Vertices.{on, hit, count, vertexAt, edgeAt}
-use Rattle.profile.specs.declared.shapes.Aabb.{Aabb}
-use Rattle.profile.specs.declared.shapes.Witness.{Witness}
-use Rattle.profile.proofs.Numbers.{NumberHit, infinite, nearest-number}
-use Rattle.points.specs.Overlap.{resultOf}
-use Rattle.points.specs.Points.{pointDistance}
-use Rattle.points.proofs.Numbers.{point-number}
-use Rattle.boxes.specs.Boxes.{edgeBox, probe, boxGap, boxPenetration, boxHolds, boxDistance}
-use Rattle.boxes.proofs.Held.{edge-held}
+use Rattle.section.specs.profile.Vertices.{on, hit, count, vertexAt, edgeAt}
+use Rattle.section.specs.declared.profile.shapes.Aabb.{Aabb}
+use Rattle.section.specs.declared.profile.shapes.Witness.{Witness}
+use Rattle.section.proofs.profile.Numbers.{NumberHit, infinite, nearest-number}
+use Rattle.section.specs.points.Overlap.{resultOf}
+use Rattle.section.specs.points.Points.{pointDistance}
+use Rattle.section.proofs.points.Numbers.{point-number}
+use Rattle.section.specs.boxes.Boxes.{edgeBox, probe, boxGap, boxPenetration, boxHolds, boxDistance}
+use Rattle.section.proofs.boxes.Held.{edge-held}
 
 gap-number : (s : List Float) (x : Aabb) → NumberHit (boxGap s x)
 unfolding boxGap

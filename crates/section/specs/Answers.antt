@@ -2,14 +2,14 @@
 use mathlib.Core.List.{List, []}
 use lib.Ieee.{Float}
 use Rattle.arith.specs.declared.vector.Vec3.{Vec3}
-use Rattle.profile.specs.Refusals.{refusal, pointTests, sphereTests, boxTests, convexTests}
-use Rattle.profile.specs.Replies.{Reply, value, turned-down, reply}
-use Rattle.profile.specs.declared.shapes.Aabb.{Aabb}
-use Rattle.profile.specs.declared.shapes.Sphere.{Sphere}
-use Rattle.profile.specs.declared.shapes.CollisionHit.{CollisionHit}
-use Rattle.points.specs.Points.{meridian, pointDistance, sphereDistance}
-use Rattle.boxes.specs.Boxes.{boxDistance}
-use Rattle.convex.specs.Convex.{convexDistance}
+use Rattle.section.specs.profile.Refusals.{refusal, pointTests, sphereTests, boxTests, convexTests}
+use Rattle.section.specs.profile.Replies.{Reply, value, turned-down, reply}
+use Rattle.section.specs.declared.profile.shapes.Aabb.{Aabb}
+use Rattle.section.specs.declared.profile.shapes.Sphere.{Sphere}
+use Rattle.section.specs.declared.profile.shapes.CollisionHit.{CollisionHit}
+use Rattle.section.specs.points.Points.{meridian, pointDistance, sphereDistance}
+use Rattle.section.specs.boxes.Boxes.{boxDistance}
+use Rattle.section.specs.convex.Convex.{convexDistance}
 use Rattle.section.specs.declared.shapes.Answer.{Answer}
 use Rattle.section.specs.declared.shapes.Answer.the-variants.{Hit, Refused}
 

@@ -9,8 +9,8 @@ use lib.IntN.{pos}
 use lib.Ieee.{Float, fin, neg, isNan}
 use Rattle.arith.specs.F64.{_≺_, _≼_, ∞, e-9}
 use Rattle.arith.specs.Num.{abs, isFinite}
-use Rattle.profile.specs.Vertices.{on, hit, count, vertexAt, any}
-use Rattle.profile.specs.declared.shapes.CollisionHit.{CollisionHit}
+use Rattle.section.specs.profile.Vertices.{on, hit, count, vertexAt, any}
+use Rattle.section.specs.declared.profile.shapes.CollisionHit.{CollisionHit}
 
 -- finite, and at most 2 ^ n in magnitude
 pub record AtMost (n : ℕ) (x : Float) : Type 0 where

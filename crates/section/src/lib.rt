@@ -1,9 +1,51 @@
-// The queries of points, spheres, boxes and convex bodies beside a half-section.
+// Half-sections: profiles, what is turned down, the builders; points, spheres, boxes and convex bodies beside them.
+mod aabb;
+mod boxes;
+mod builders;
+mod convex;
+pub mod points;
+mod probes;
+pub mod profile;
 mod queries;
+mod ranges;
+mod refusals;
+pub mod segments;
 mod shapes;
+mod signed;
 
+pub use builders::Kept;
+pub use builders::check_polygon;
+pub use builders::check_section;
+pub use builders::try_from_polygon;
+pub use builders::try_from_section;
+pub use builders::write_polygon;
+pub use builders::write_section;
+pub use profile::Aabb;
+pub use profile::CollisionHit;
+pub use profile::Edge;
+pub use profile::Sphere;
+pub use profile::Vertex;
+pub use profile::Witness;
 pub use queries::aabb_polygon_distance;
 pub use queries::convex_polygon_distance;
 pub use queries::query_sphere;
 pub use queries::signed_distance;
+pub use refusals::alone_refusal;
+pub use refusals::any_below_axis;
+pub use refusals::body_refusal;
+pub use refusals::bounds_refusal;
+pub use refusals::box_refusal;
+pub use refusals::convex_refusal;
+pub use refusals::list_refusal;
+pub use refusals::point_refusal;
+pub use refusals::radius_refusal;
+pub use refusals::sphere_refusal;
 pub use shapes::Answer;
+
+// For the crates above.
+pub use aabb::box_distance;
+pub use aabb::box_distance_near;
+pub use convex::convex_distance;
+pub use profile::nearer_of;
+pub use signed::signed_distance_2d;
+pub use signed::sphere_distance;

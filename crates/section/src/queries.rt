@@ -1,22 +1,22 @@
 // The queries: each gives a hit, or the number under which it is turned down. They ask nothing of
 // the caller.
-ghost use Rattle.profile.specs.Replies.{Answers};
-ghost use Rattle.boxes.specs.Boxes.{aabb};
+ghost use Rattle.section.specs.profile.Replies.{Answers};
+ghost use Rattle.section.specs.boxes.Boxes.{aabb};
 ghost use Rattle.section.specs.Answers.{told, pointAnswer, sphereAnswer, boxAnswer, convexAnswer};
 ghost use Rattle.section.specs.Demand.{Bounded, BoundedOffAxis};
 use super::shapes::Answer;
-use aabb::box_distance;
+use crate::aabb::box_distance;
+use crate::convex::convex_distance;
+use crate::profile::Aabb;
+use crate::profile::Sphere;
+use crate::refusals::box_refusal;
+use crate::refusals::convex_refusal;
+use crate::refusals::point_refusal;
+use crate::refusals::sphere_refusal;
+use crate::signed::meridian;
+use crate::signed::signed_distance_2d;
+use crate::signed::sphere_distance;
 use arith::Vec3;
-use convex::convex_distance;
-use profile::Aabb;
-use profile::Sphere;
-use refusals::box_refusal;
-use refusals::convex_refusal;
-use refusals::point_refusal;
-use refusals::sphere_refusal;
-use signed::meridian;
-use signed::signed_distance_2d;
-use signed::sphere_distance;
 
 pub fn signed_distance(section: &[f64], point: Vec3) -> Answer
     ensures { λ r. ⌜ (let s = now (section .entry) in Answers (told r) (pointAnswer s point) (BoundedOffAxis s)) ⌝ }

@@ -1,5 +1,5 @@
 // The answers of the queries.
-use profile::CollisionHit;
+use crate::profile::CollisionHit;
 
 // The answer of a query: a hit, or the number under which it is turned down.
 pub enum Answer {

@@ -10,9 +10,9 @@ use lib.Dec.{eqb, ltb}
 use lib.Ieee.{Float, neg, nan}
 use borrow.Author.Tests.{ne-eqb}
 use Rattle.arith.specs.F64.{_≺_, e-9}
-use Rattle.profile.specs.Vertices.{count, vertexAt, any}
-use Rattle.profile.specs.Refusals.{refusal, anyBelowAxis}
-use Rattle.profile.proofs.Each.{All, nil, cons}
+use Rattle.section.specs.profile.Vertices.{count, vertexAt, any}
+use Rattle.section.specs.profile.Refusals.{refusal, anyBelowAxis}
+use Rattle.section.proofs.profile.Each.{All, nil, cons}
 use Rattle.store.specs.Records.{number}
 use Rattle.store.specs.First.{firstRefused}
 use Rattle.store.specs.Chain.{chain}

@@ -8,7 +8,7 @@ use mathlib.Core.List.{List, [], _∷_, _++_}
 use mathlib.Core.Path.{_≡_, refl, ap, _∙_}
 use lib.Dec.{eqb, leb}
 use borrow.Author.Tests.{ne-eqb, eqb-true, eqb-false, leb-true, leb-false}
-use Rattle.profile.specs.Refusals.{anyOf}
+use Rattle.section.specs.profile.Refusals.{anyOf}
 use Rattle.store.specs.Records.{records, next}
 use Rattle.store.specs.Chain.{Chain, whole, broken, member, follow, chain}
 use Rattle.store.proofs.Following.{member-snoc}

@@ -11,7 +11,7 @@ use lib.ListN.{length, take, getD, set, length-set, replicate, length-replicate,
 use lib.Seq.{getD-set-same, getD-set-other, take-suc-set}
 use lib.Dec.{eqb, leb}
 use borrow.Author.Tests.{eq-eqb, ne-eqb, eqb-true, eqb-false, leb-false}
-use Rattle.profile.specs.Refusals.{anyOf}
+use Rattle.section.specs.profile.Refusals.{anyOf}
 use Rattle.store.specs.Records.{records, next}
 use Rattle.store.specs.Chain.{Chain, whole, broken, member, follow, chain, inOrder}
 use Rattle.store.specs.Store.{linksAnswer}

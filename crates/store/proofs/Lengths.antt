@@ -8,7 +8,7 @@ use mathlib.Core.Path.{_≡_, refl, _∙_}
 use lib.ListN.{length}
 use lib.Dec.{eqb, ltb, leb}
 use borrow.Author.Tests.{ltb-true, ltb-false, eqb-true, eqb-false, eq-eqb, ne-eqb, le-leb, lt-leb}
-use Rattle.profile.specs.Refusals.{refusal}
+use Rattle.section.specs.profile.Refusals.{refusal}
 use Rattle.store.specs.Chain.{chain}
 use Rattle.store.specs.Kinds.{kindsAnswer}
 use Rattle.store.specs.Radii.{radiiAnswer}

@@ -4,8 +4,8 @@ use mathlib.Core.Bool.{Bool, true, false, cond, true≢false}
 use mathlib.Core.List.{List, [], _∷_}
 use mathlib.Core.Path.{_≡_, refl, sym, _∙_}
 use lib.Ieee.{Float}
-use Rattle.profile.specs.Refusals.{listTests}
-use Rattle.profile.proofs.Refusals.Ordered.{refusal-most}
+use Rattle.section.specs.profile.Refusals.{listTests}
+use Rattle.section.proofs.profile.Refusals.Ordered.{refusal-most}
 use Rattle.store.specs.First.{firstRefused}
 use Rattle.store.specs.Chain.{Chain, whole, broken}
 use Rattle.store.specs.Store.{andThen, numbered, linksAnswer, sectionAnswer}

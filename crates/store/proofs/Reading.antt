@@ -8,10 +8,10 @@ use lib.ListN.{length}
 use lib.Dec.{T, eqb, ltb, nltb→le}
 use lib.Ieee.{Float}
 use borrow.Author.Tests.{ne-eqb, lt-ltb, le-ltb}
-use Rattle.profile.specs.Refusals.{_when_, anyOf, listTests, refusal}
-use Rattle.profile.proofs.Each.{All, nil, cons}
-use Rattle.profile.proofs.Refusals.Ordered.{Passes, none-applies}
-use Rattle.profile.proofs.Refusals.Passed.{Counted, list-counted}
+use Rattle.section.specs.profile.Refusals.{_when_, anyOf, listTests, refusal}
+use Rattle.section.proofs.profile.Each.{All, nil, cons}
+use Rattle.section.proofs.profile.Refusals.Ordered.{Passes, none-applies}
+use Rattle.section.proofs.profile.Refusals.Passed.{Counted, list-counted}
 use Rattle.store.specs.Records.{records}
 use Rattle.store.specs.Chain.{Chain, whole, broken, chain, inOrder}
 use Rattle.store.specs.Kinds.{kindsAnswer}

@@ -9,7 +9,7 @@ use mathlib.Core.Logic.{⊎-elim}
 use mathlib.Core.Path.{_≡_, refl, sym, ap, subst, _∙_}
 use lib.Dec.{eqb, leb}
 use borrow.Author.Tests.{ne-eqb, eq-eqb, leb-false}
-use Rattle.profile.specs.Refusals.{anyOf}
+use Rattle.section.specs.profile.Refusals.{anyOf}
 use Rattle.store.specs.Records.{records, next}
 use Rattle.store.specs.Chain.{Chain, whole, broken, member, follow, chain}
 use Rattle.store.proofs.Following.{member-snoc}

@@ -4,7 +4,7 @@ use Prim.Native.Nat.{ℕ, zero, suc}
 use mathlib.Core.Bool.{Bool, _||_, cond}
 use mathlib.Core.List.{List, [], _∷_, _++_}
 use lib.Dec.{eqb, leb}
-use Rattle.profile.specs.Refusals.{anyOf}
+use Rattle.section.specs.profile.Refusals.{anyOf}
 use Rattle.store.specs.Records.{records, next}
 
 -- the records in chain order, record 0 standing first; or the record that holds the bad next

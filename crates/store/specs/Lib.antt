@@ -8,3 +8,4 @@ pub mod Kinds
 pub mod Radii
 pub mod Store
 pub mod Steps
+pub mod edits

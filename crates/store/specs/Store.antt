@@ -5,7 +5,7 @@ use mathlib.Core.List.{List, [], _∷_, flatMap}
 use lib.ListN.{length}
 use lib.Dec.{eqb, ltb}
 use lib.Ieee.{Float}
-use Rattle.profile.specs.Refusals.{_when_, refusal, listTests}
+use Rattle.section.specs.profile.Refusals.{_when_, refusal, listTests}
 use Rattle.store.specs.Records.{number}
 use Rattle.store.specs.Chain.{Chain, whole, broken, chain, inOrder}
 use Rattle.store.specs.Kinds.{isVertex, kindsAnswer}

@@ -20,7 +20,7 @@ fn length_of(head: &[u8; 4]) -> usize
 
 fn write_listing(buffer: &[u8; 20480], n: usize) {
     let mut text = [0u8; 28923];
-    let bytes = lister::list_input(buffer, n, &mut text);
+    let bytes = listings::list_input(buffer, n, &mut text);
     io::write_all(STDOUT_FILENO, &text[..bytes]);
 }
 

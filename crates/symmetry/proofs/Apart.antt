@@ -10,25 +10,25 @@ use Rattle.arith.specs.F64.{_≺_}
 use Rattle.arith.specs.Num.{isFinite}
 use Rattle.arith.specs.Vector.{vec}
 use Rattle.arith.specs.declared.vector.Vec3.{Vec3}
-use Rattle.roots.specs.Roots.{sqrt, hypot}
-use Rattle.roots.proofs.Rounding.Key.{negative}
-use Rattle.profile.specs.Vertices.{any, hit, upto, witness}
-use Rattle.profile.specs.Refusals.{anyBelowAxis, anyOf, refusal}
-use Rattle.profile.specs.Replies.{Reply, value, turned-down}
-use Rattle.segments.specs.Segments.{closestPoint, closest, closestPlaces, segments}
-use Rattle.segments.specs.Clip.{clipSide, clip}
-use Rattle.points.specs.Points.{surfaceStep, surfaceNear, crosses, pointInside, insideAxisEdge, inSection, pointDistance}
-use Rattle.points.specs.Overlap.{resultOf}
-use Rattle.boxes.specs.Boxes.{edgeBox, strictlyInsideAabb, segmentThroughInterior, boxGap, boxPenetration, boxWitness}
-use Rattle.boxes.specs.Boxes.{boxHolds, boxDistance}
-use Rattle.settings.specs.Settings.{finest}
-use Rattle.settings.specs.declared.shapes.Settings.{Settings}
-use Rattle.bands.specs.Axis.{axisDir, axis}
-use Rattle.bands.specs.Band.{axialBox, bandOf, bar, spanAt}
-use Rattle.bands.specs.declared.shapes.Cylinder.{Cylinder}
+use Rattle.arith.specs.roots.Roots.{sqrt, hypot}
+use Rattle.arith.proofs.roots.Rounding.Key.{negative}
+use Rattle.section.specs.profile.Vertices.{any, hit, upto, witness}
+use Rattle.section.specs.profile.Refusals.{anyBelowAxis, anyOf, refusal}
+use Rattle.section.specs.profile.Replies.{Reply, value, turned-down}
+use Rattle.section.specs.segments.Segments.{closestPoint, closest, closestPlaces, segments}
+use Rattle.section.specs.segments.Clip.{clipSide, clip}
+use Rattle.section.specs.points.Points.{surfaceStep, surfaceNear, crosses, pointInside, insideAxisEdge, inSection, pointDistance}
+use Rattle.section.specs.points.Overlap.{resultOf}
+use Rattle.section.specs.boxes.Boxes.{edgeBox, strictlyInsideAabb, segmentThroughInterior, boxGap, boxPenetration, boxWitness}
+use Rattle.section.specs.boxes.Boxes.{boxHolds, boxDistance}
+use Rattle.walk.specs.settings.Settings.{finest}
+use Rattle.walk.specs.declared.settings.shapes.Settings.{Settings}
+use Rattle.walk.specs.bands.Axis.{axisDir, axis}
+use Rattle.walk.specs.bands.Band.{axialBox, bandOf, bar, spanAt}
+use Rattle.walk.specs.declared.bands.shapes.Cylinder.{Cylinder}
 use Rattle.walk.specs.Walk.{bandDistance}
 use Rattle.walk.specs.declared.shapes.CountedHit.{CountedHit}
-use Rattle.cylinders.specs.Cylinders.{cylinderAnswer, cylinderDistance}
+use Rattle.walk.specs.cylinders.Cylinders.{cylinderAnswer, cylinderDistance}
 use Rattle.symmetry.specs.Alike.{Alike, same}
 use Rattle.symmetry.specs.Moved.{endsSwapped}
 use Rattle.symmetry.proofs.Floats.Like.{like-lt}

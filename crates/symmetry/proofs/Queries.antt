@@ -5,17 +5,17 @@ use mathlib.Core.List.{List, []}
 use mathlib.Core.Path.{ap, refl, _∙_, _≡_}
 use lib.Dec.{T}
 use lib.Ieee.{Float}
-use Rattle.profile.specs.Refusals.{refusal}
-use Rattle.profile.specs.Replies.{reply}
-use Rattle.settings.specs.Settings.{settingsTests}
-use Rattle.settings.specs.declared.shapes.Settings.{Settings}
-use Rattle.bands.specs.Axis.{axis}
-use Rattle.bands.specs.declared.shapes.Cylinder.{Cylinder}
-use Rattle.bands.proofs.Limit.{CylinderInLimit}
+use Rattle.section.specs.profile.Refusals.{refusal}
+use Rattle.section.specs.profile.Replies.{reply}
+use Rattle.walk.specs.settings.Settings.{settingsTests}
+use Rattle.walk.specs.declared.settings.shapes.Settings.{Settings}
+use Rattle.walk.specs.bands.Axis.{axis}
+use Rattle.walk.specs.declared.bands.shapes.Cylinder.{Cylinder}
+use Rattle.walk.proofs.bands.Limit.{CylinderInLimit}
 use Rattle.walk.specs.declared.shapes.CountedHit.{CountedHit}
-use Rattle.cylinders.specs.Cylinders.{cylinderAnswer, cylinderTests}
-use Rattle.cylinders.specs.Promised.{acrossSpindle}
-use Rattle.cylinders.proofs.Cover.Accepted.{accepted}
+use Rattle.walk.specs.cylinders.Cylinders.{cylinderAnswer, cylinderTests}
+use Rattle.walk.specs.cylinders.Promised.{acrossSpindle}
+use Rattle.walk.proofs.cylinders.Cover.Accepted.{accepted}
 use Rattle.symmetry.specs.Alike.{Alike, EitherSide, LikeCounted}
 use Rattle.symmetry.specs.Moved.{endsSwapped, mirroredX, mirroredY}
 use Rattle.symmetry.proofs.Cylinder.Distances.{distance-mirrored-x, distance-mirrored-y, distance-swapped}

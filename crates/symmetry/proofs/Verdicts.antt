@@ -6,19 +6,19 @@ use mathlib.Core.Path.{ap, _∙_, _≡_}
 use lib.Ieee.{binary64, Float}
 use Rattle.arith.specs.F64.{_⊗_, ½, e-9}
 use Rattle.arith.specs.Vector.{subtract}
-use Rattle.profile.specs.Refusals.{refusal}
-use Rattle.settings.specs.Settings.{finest}
-use Rattle.bands.specs.Axis.{axis}
-use Rattle.bands.specs.declared.shapes.Axis.{Axis}
-use Rattle.bands.specs.declared.shapes.Axis.the-variants.{Axial, AlongX, AlongY, Neither}
-use Rattle.bands.specs.declared.shapes.Cylinder.{Cylinder}
-use Rattle.bands.proofs.Limit.{CylinderInLimit}
+use Rattle.section.specs.profile.Refusals.{refusal}
+use Rattle.walk.specs.settings.Settings.{finest}
+use Rattle.walk.specs.bands.Axis.{axis}
+use Rattle.walk.specs.declared.bands.shapes.Axis.{Axis}
+use Rattle.walk.specs.declared.bands.shapes.Axis.the-variants.{Axial, AlongX, AlongY, Neither}
+use Rattle.walk.specs.declared.bands.shapes.Cylinder.{Cylinder}
+use Rattle.walk.proofs.bands.Limit.{CylinderInLimit}
 use Rattle.walk.specs.declared.shapes.CountedHit.{CountedHit}
-use Rattle.cylinders.specs.Cylinders.{cylinderDistance, cylinderTests}
-use Rattle.cylinders.proofs.Cover.Accepted.{accepted}
+use Rattle.walk.specs.cylinders.Cylinders.{cylinderDistance, cylinderTests}
+use Rattle.walk.proofs.cylinders.Cover.Accepted.{accepted}
 use Rattle.bodies.specs.declared.shapes.Body.the-variants.{Cylinder as Bar}
-use Rattle.verdicts.specs.Tilt.{judgedDistance, tiltLength}
-use Rattle.verdicts.specs.Verdicts.{bodyVerdict, collides}
+use Rattle.bodies.specs.verdicts.Tilt.{judgedDistance, tiltLength}
+use Rattle.bodies.specs.verdicts.Verdicts.{bodyVerdict, collides}
 use Rattle.symmetry.specs.Alike.{EitherSide, Like, same}
 use Rattle.symmetry.specs.Moved.{endsSwapped, mirroredX, mirroredY}
 use Rattle.symmetry.proofs.Floats.Like.{like-add, like-lt, like-of, like-sub}

@@ -10,30 +10,30 @@ use lib.Ieee.Fits.{inf-fits, nan-fits}
 use lib.IntN.{ℤ, pos}
 use Rattle.arith.specs.F64.{_⊖_, _⊗_, _≼_, 𝟘, e-15, ∞}
 use Rattle.arith.specs.Num.{clamp}
-use Rattle.roots.specs.Roots.{root, sqrt}
-use Rattle.roots.proofs.Rounding.Key.{magnitude, negative, unit}
+use Rattle.arith.specs.roots.Roots.{root, sqrt}
+use Rattle.arith.proofs.roots.Rounding.Key.{magnitude, negative, unit}
 use Rattle.arith.proofs.Laws.NearestRoot.{root-plus}
 use Rattle.arith.proofs.Laws.RootKey.{root-fits}
 use Rattle.arith.proofs.Laws.Order.{zeros-equal}
 use Rattle.arith.proofs.Laws.Hypot.{sqrt-root}
 use Rattle.symmetry.proofs.Floats.Like.{or-true}
 use Rattle.symmetry.proofs.Floats.Signs.{zero-is}
-use Rattle.profile.specs.Vertices.{hit, nearer, on, upto, vertex}
-use Rattle.profile.specs.declared.shapes.Aabb.{Aabb}
-use Rattle.profile.specs.declared.shapes.CollisionHit.{CollisionHit}
-use Rattle.profile.specs.declared.shapes.Vertex.{Vertex}
-use Rattle.profile.proofs.Steps.{pick}
-use Rattle.boxes.specs.Boxes.{boxDistance}
-use Rattle.points.specs.Points.{pointDistance}
-use Rattle.settings.specs.declared.shapes.Settings.{Settings}
-use Rattle.bands.specs.Band.{halfWidth, spanAt}
-use Rattle.pieces.specs.Pieces.{narrowest, pieceBox, variation, wholeWidth, widest}
-use Rattle.pieces.specs.declared.shapes.Piece.{Piece}
+use Rattle.section.specs.profile.Vertices.{hit, nearer, on, upto, vertex}
+use Rattle.section.specs.declared.profile.shapes.Aabb.{Aabb}
+use Rattle.section.specs.declared.profile.shapes.CollisionHit.{CollisionHit}
+use Rattle.section.specs.declared.profile.shapes.Vertex.{Vertex}
+use Rattle.section.proofs.profile.Steps.{pick}
+use Rattle.section.specs.boxes.Boxes.{boxDistance}
+use Rattle.section.specs.points.Points.{pointDistance}
+use Rattle.walk.specs.declared.settings.shapes.Settings.{Settings}
+use Rattle.walk.specs.bands.Band.{halfWidth, spanAt}
+use Rattle.walk.specs.pieces.Pieces.{narrowest, pieceBox, variation, wholeWidth, widest}
+use Rattle.walk.specs.declared.pieces.shapes.Piece.{Piece}
 use Rattle.walk.specs.Walk.{bandDistance, measured, oneBox, sampled, sampleVertex, sampleZ, start, thinBox, waiting}
 use Rattle.walk.specs.Walk.{Walk, walk, walkAll, walked}
 use Rattle.walk.specs.declared.shapes.CountedHit.{CountedHit}
-use Rattle.bands.specs.declared.shapes.RadialBand.{RadialBand}
-use Rattle.bands.specs.declared.shapes.Span.{Span}
+use Rattle.walk.specs.declared.bands.shapes.RadialBand.{RadialBand}
+use Rattle.walk.specs.declared.bands.shapes.Span.{Span}
 
 -- ---- half widths: f64 without a minus sign
 pub record Width (ρ : Float) : Type 0 where

@@ -4,10 +4,10 @@ use mathlib.Core.Bool.{Bool}
 use mathlib.Core.Path.{_≡_}
 use lib.Ieee.{Float, fin}
 use lib.IntN.{ℤ}
-use Rattle.profile.specs.Replies.{Reply, value, turned-down}
-use Rattle.profile.specs.declared.shapes.CollisionHit.{CollisionHit}
-use Rattle.profile.specs.declared.shapes.Witness.{Witness}
-use Rattle.bands.specs.declared.shapes.Cylinder.{Cylinder}
+use Rattle.section.specs.profile.Replies.{Reply, value, turned-down}
+use Rattle.section.specs.declared.profile.shapes.CollisionHit.{CollisionHit}
+use Rattle.section.specs.declared.profile.shapes.Witness.{Witness}
+use Rattle.walk.specs.declared.bands.shapes.Cylinder.{Cylinder}
 use Rattle.walk.specs.declared.shapes.CountedHit.{CountedHit}
 use Rattle.symmetry.specs.Moved.{mirroredX, mirroredY, halfTurned}
 

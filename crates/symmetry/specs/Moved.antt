@@ -2,8 +2,8 @@
 use lib.Ieee.{neg}
 use Rattle.arith.specs.Vector.{vec}
 use Rattle.arith.specs.declared.vector.Vec3.{Vec3}
-use Rattle.bands.specs.Band.{bar}
-use Rattle.bands.specs.declared.shapes.Cylinder.{Cylinder}
+use Rattle.walk.specs.bands.Band.{bar}
+use Rattle.walk.specs.declared.bands.shapes.Cylinder.{Cylinder}
 
 abbrev pub endsSwapped : Cylinder → Cylinder
 endsSwapped c = bar (c .b) (c .a) (c .radius)

@@ -7,22 +7,22 @@ use mathlib.Core.List.{_++_, _∷_, [], List}
 use mathlib.Core.Path.{_≡_}
 use lib.Dec.{T}
 use lib.Ieee.{binary64, fits, Float}
-use Rattle.profile.specs.Refusals.{axisTests, refusal}
-use Rattle.profile.specs.Replies.{OfValue, value}
-use Rattle.profile.proofs.Each.{All, all-first}
-use Rattle.profile.proofs.Refusals.Passed.{NumberTaken, taken}
-use Rattle.profile.proofs.Replies.{of-reply}
-use Rattle.settings.specs.Settings.{finest, settingsTests}
-use Rattle.settings.specs.declared.shapes.Settings.{Settings}
-use Rattle.bands.specs.Axis.{axis}
-use Rattle.bands.specs.declared.shapes.Cylinder.{Cylinder}
-use Rattle.cylinders.specs.Cylinders.{cylinderAnswer, cylinderDistance, cylinderNumbers, cylinderOwn, cylinderTests}
-use Rattle.cylinders.proofs.Cover.Accepted.{accepted, settings-accepted}
+use Rattle.section.specs.profile.Refusals.{axisTests, refusal}
+use Rattle.section.specs.profile.Replies.{OfValue, value}
+use Rattle.section.proofs.profile.Each.{All, all-first}
+use Rattle.section.proofs.profile.Refusals.Passed.{NumberTaken, taken}
+use Rattle.section.proofs.profile.Replies.{of-reply}
+use Rattle.walk.specs.settings.Settings.{finest, settingsTests}
+use Rattle.walk.specs.declared.settings.shapes.Settings.{Settings}
+use Rattle.walk.specs.bands.Axis.{axis}
+use Rattle.walk.specs.declared.bands.shapes.Cylinder.{Cylinder}
+use Rattle.walk.specs.cylinders.Cylinders.{cylinderAnswer, cylinderDistance, cylinderNumbers, cylinderOwn, cylinderTests}
+use Rattle.walk.proofs.cylinders.Cover.Accepted.{accepted, settings-accepted}
 use Rattle.bodies.specs.declared.shapes.Body.the-variants.{Cylinder as Bar}
-use Rattle.verdicts.specs.Tilt.{judgedDistance}
-use Rattle.verdicts.specs.Verdicts.{bodyVerdict, collides}
-use Rattle.walk_verdicts.specs.WalkVerdicts.{walkVerdict}
-use Rattle.walk_verdicts.specs.declared.shapes.JudgedWalk.{JudgedWalk}
+use Rattle.bodies.specs.verdicts.Tilt.{judgedDistance}
+use Rattle.bodies.specs.verdicts.Verdicts.{bodyVerdict, collides}
+use Rattle.bodies.specs.walk_verdicts.WalkVerdicts.{walkVerdict}
+use Rattle.bodies.specs.declared.walk_verdicts.shapes.JudgedWalk.{JudgedWalk}
 use Rattle.truth.specs.Points.{Held, Reach, WithinReach}
 use Rattle.truth.specs.Solid.{sound}
 use Rattle.truth.specs.Boxes.{BoxTrue, InSolid, OnEdges}

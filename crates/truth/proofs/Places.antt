@@ -6,7 +6,7 @@ use native.Mathlib.Nat.{le-trans, mul-le-mul, mul-le-mul-left}
 use native.Mathlib.Omega.{arith}
 use lib.Ieee.{fin, Float, inf, nan}
 use Rattle.arith.proofs.Laws.Sizes.{K, M}
-use Rattle.roots.proofs.Rounding.Key.{key, magnitude, mid, unit}
+use Rattle.arith.proofs.roots.Rounding.Key.{key, magnitude, mid, unit}
 use Rattle.arith.specs.Whole.{apart}
 use Rattle.truth.specs.Exact.{NotOver, origin, place, size, units}
 

@@ -6,9 +6,9 @@ use mathlib.Core.Path.{_≡_}
 use lib.Dec.{T}
 use lib.Ieee.{binary64, fits, Float}
 use lib.Ieee.Scale.{finite}
-use Rattle.profile.specs.declared.shapes.Aabb.{Aabb}
-use Rattle.profile.specs.Vertices.{count, endAt, vertexAt}
-use Rattle.boxes.specs.Boxes.{boxDistance}
+use Rattle.section.specs.declared.profile.shapes.Aabb.{Aabb}
+use Rattle.section.specs.profile.Vertices.{count, endAt, vertexAt}
+use Rattle.section.specs.boxes.Boxes.{boxDistance}
 use Rattle.truth.specs.Exact.{NotOver, origin, place, size, sqd, units}
 use Rattle.truth.specs.Points.{between, bits, Reach}
 use Rattle.truth.specs.Solid.{exactInside}

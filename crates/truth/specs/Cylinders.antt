@@ -8,20 +8,20 @@ use mathlib.Core.Path.{_≡_}
 use lib.Dec.{T}
 use lib.Ieee.{Float}
 use Rattle.arith.specs.F64.{e-9}
-use Rattle.profile.specs.declared.shapes.Aabb.{Aabb}
-use Rattle.settings.specs.declared.shapes.Settings.{Settings}
-use Rattle.bands.specs.Axis.{axis}
-use Rattle.bands.specs.Band.{bandOf, exchanged}
-use Rattle.bands.specs.declared.shapes.Axis.{Axis}
-use Rattle.bands.specs.declared.shapes.Axis.the-variants.{Axial, AlongX, AlongY, Neither}
-use Rattle.bands.specs.declared.shapes.Cylinder.{Cylinder}
-use Rattle.bands.specs.declared.shapes.RadialBand.{RadialBand}
-use Rattle.pieces.specs.Pieces.{pieceBox, variation}
-use Rattle.pieces.specs.declared.shapes.Piece.{Piece}
+use Rattle.section.specs.declared.profile.shapes.Aabb.{Aabb}
+use Rattle.walk.specs.declared.settings.shapes.Settings.{Settings}
+use Rattle.walk.specs.bands.Axis.{axis}
+use Rattle.walk.specs.bands.Band.{bandOf, exchanged}
+use Rattle.walk.specs.declared.bands.shapes.Axis.{Axis}
+use Rattle.walk.specs.declared.bands.shapes.Axis.the-variants.{Axial, AlongX, AlongY, Neither}
+use Rattle.walk.specs.declared.bands.shapes.Cylinder.{Cylinder}
+use Rattle.walk.specs.declared.bands.shapes.RadialBand.{RadialBand}
+use Rattle.walk.specs.pieces.Pieces.{pieceBox, variation}
+use Rattle.walk.specs.declared.pieces.shapes.Piece.{Piece}
 use Rattle.walk.specs.Cover.{Covered}
 use Rattle.walk.specs.Walk.{Walk}
 use Rattle.walk.specs.declared.shapes.CountedHit.{CountedHit}
-use Rattle.cylinders.specs.Promised.{acrossSpindle}
+use Rattle.walk.specs.cylinders.Promised.{acrossSpindle}
 use Rattle.truth.specs.Exact.{NotOver, origin, place, size, sqd, Turned, units}
 use Rattle.truth.specs.Points.{between, bits, Reach}
 use Rattle.truth.specs.Boxes.{Within}

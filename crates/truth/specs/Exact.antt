@@ -5,10 +5,10 @@ use Prim.Native.Nat.{ℕ, _+_, _-_, _*_, _^_, _≤_}
 use mathlib.Core.Bool.{true, false}
 use mathlib.Core.Path.{_≡_}
 use lib.Ieee.{Float, nan, inf, fin, binary64}
-use Rattle.roots.specs.Roots.{ticks}
+use Rattle.arith.specs.roots.Roots.{ticks}
 use Rattle.arith.specs.Whole.{apart}
 use Rattle.arith.specs.declared.vector.Vec3.{Vec3}
-use Rattle.profile.specs.declared.shapes.Vertex.{Vertex}
+use Rattle.section.specs.declared.profile.shapes.Vertex.{Vertex}
 
 -- the square of how far two numbers are apart
 unfoldable pub sqd : ℕ → ℕ → ℕ

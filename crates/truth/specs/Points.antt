@@ -5,9 +5,9 @@ use lib.Dec.{T}
 use lib.Ieee.{Float, binary64, fits, nan}
 use lib.ListN.{getD, length}
 use Rattle.arith.specs.declared.vector.Vec3.{Vec3}
-use Rattle.profile.specs.Vertices.{count, vertexAt, endAt}
-use Rattle.profile.specs.declared.shapes.Vertex.{Vertex}
-use Rattle.points.specs.Points.{edgeIsSurface}
+use Rattle.section.specs.profile.Vertices.{count, vertexAt, endAt}
+use Rattle.section.specs.declared.profile.shapes.Vertex.{Vertex}
+use Rattle.section.specs.points.Points.{edgeIsSurface}
 use Rattle.section.specs.Demand.{AtMost, offAxis}
 use Rattle.truth.specs.Exact.{awayInSpace², away², NotOver, NotUnder, place, Turned}
 

@@ -9,9 +9,9 @@ use lib.Ieee.{binary64, eq, Float, ofBits, unlike}
 use Rattle.arith.specs.F64.{_⊖_, _≼_, 𝟘, e-18}
 use Rattle.arith.specs.Num.{abs}
 use Rattle.arith.specs.declared.vector.Vec3.{Vec3}
-use Rattle.profile.specs.Vertices.{any, count, vertexAt, endAt, upto}
-use Rattle.profile.specs.declared.shapes.Vertex.{Vertex}
-use Rattle.points.specs.Points.{edgeIsSurface}
+use Rattle.section.specs.profile.Vertices.{any, count, vertexAt, endAt, upto}
+use Rattle.section.specs.declared.profile.shapes.Vertex.{Vertex}
+use Rattle.section.specs.points.Points.{edgeIsSurface}
 use Rattle.truth.specs.Exact.{awayInSpace², away², NotOver, origin, place, Turned}
 use Rattle.truth.specs.Points.{ClearInSpace, NeverOver, Surface}
 

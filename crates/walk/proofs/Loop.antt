@@ -11,17 +11,17 @@ use lib.ListN.{length, getD}
 use lib.Ieee.{Float, nan}
 use Rattle.arith.specs.F64.{∞}
 use Rattle.arith.specs.Num.{min}
-use Rattle.profile.specs.Vertices.{hit}
-use Rattle.profile.specs.declared.shapes.CollisionHit.{CollisionHit}
-use Rattle.pieces.specs.Pieces.{piece, wholeWidth, halves}
-use Rattle.pieces.specs.Steps.{pieces, Waits, Pushed, measure}
-use Rattle.pieces.specs.declared.shapes.Piece.{Piece}
-use Rattle.pieces.specs.declared.shapes.Measured.{Measured}
-use Rattle.pieces.proofs.Stored.{pieces-length}
+use Rattle.section.specs.profile.Vertices.{hit}
+use Rattle.section.specs.declared.profile.shapes.CollisionHit.{CollisionHit}
+use Rattle.walk.specs.pieces.Pieces.{piece, wholeWidth, halves}
+use Rattle.walk.specs.pieces.Steps.{pieces, Waits, Pushed, measure}
+use Rattle.walk.specs.declared.pieces.shapes.Piece.{Piece}
+use Rattle.walk.specs.declared.pieces.shapes.Measured.{Measured}
+use Rattle.walk.proofs.pieces.Stored.{pieces-length}
 use Rattle.walk.specs.Walk.{Walk, better, halved, sampled, waiting, measured}
 use Rattle.walk.specs.Walk.{walk, walkAll, walked}
 use Rattle.walk.specs.Steps.{Room}
-use Rattle.bands.specs.declared.shapes.RadialBand.{RadialBand}
+use Rattle.walk.specs.declared.bands.shapes.RadialBand.{RadialBand}
 use Rattle.walk.specs.declared.shapes.CountedHit.{CountedHit}
 
 -- the piece at place k

@@ -8,11 +8,11 @@ use lib.ListN.{length}
 use lib.Dec.{T}
 use lib.Ieee.{Float, binary64, fits}
 use Rattle.arith.specs.F64.{_⊕_, _⊖_, _≺_, _≼_}
-use Rattle.bands.specs.Band.{halfWidth, spanAt}
-use Rattle.pieces.specs.Pieces.{wholeWidth, pieceBox, variation, boxHit}
-use Rattle.pieces.specs.declared.shapes.Piece.{Piece}
+use Rattle.walk.specs.bands.Band.{halfWidth, spanAt}
+use Rattle.walk.specs.pieces.Pieces.{wholeWidth, pieceBox, variation, boxHit}
+use Rattle.walk.specs.declared.pieces.shapes.Piece.{Piece}
 use Rattle.walk.specs.Walk.{Walk, sampled, left, reported}
-use Rattle.bands.specs.declared.shapes.RadialBand.{RadialBand}
+use Rattle.walk.specs.declared.bands.shapes.RadialBand.{RadialBand}
 
 abbrev pub waits : List Piece → Bool
 waits [] = false

@@ -2,3 +2,7 @@
 pub mod Walk
 pub mod Cover
 pub mod Steps
+pub mod settings
+pub mod bands
+pub mod pieces
+pub mod cylinders

@@ -2,12 +2,12 @@
 use Prim.Native.Nat.{ℕ, _≤_}
 use mathlib.Core.List.{List}
 use lib.Ieee.{Float}
-use Rattle.profile.specs.Vertices.{count, nearestOf}
-use Rattle.points.specs.Points.{pointDistance}
-use Rattle.profile.specs.declared.shapes.CollisionHit.{CollisionHit}
+use Rattle.section.specs.profile.Vertices.{count, nearestOf}
+use Rattle.section.specs.points.Points.{pointDistance}
+use Rattle.section.specs.declared.profile.shapes.CollisionHit.{CollisionHit}
 use Rattle.walk.specs.Walk.{sampleVertex, walkAll}
-use Rattle.bands.specs.declared.shapes.RadialBand.{RadialBand}
-use Rattle.settings.specs.declared.shapes.Settings.{Settings}
+use Rattle.walk.specs.declared.bands.shapes.RadialBand.{RadialBand}
+use Rattle.walk.specs.declared.settings.shapes.Settings.{Settings}
 
 -- the three samples at z, against the best so far
 abbrev pub sampleAt : List Float → RadialBand → Float → CollisionHit → CollisionHit

@@ -8,17 +8,17 @@ use lib.IntN.{pos}
 use lib.Ieee.{Float, binary64, ofInt}
 use Rattle.arith.specs.F64.{_⊕_, _⊖_, _⊗_, _⊘_, _≺_, _≼_, 𝟘, ∞, e-12, e-15}
 use Rattle.arith.specs.Num.{min}
-use Rattle.profile.specs.Vertices.{vertex, on, hit, upto, nearer, nearestOf}
-use Rattle.points.specs.Points.{pointDistance}
-use Rattle.boxes.specs.Boxes.{boxDistance}
-use Rattle.profile.specs.declared.shapes.Vertex.{Vertex}
-use Rattle.profile.specs.declared.shapes.CollisionHit.{CollisionHit}
-use Rattle.profile.specs.declared.shapes.Aabb.{Aabb}
-use Rattle.bands.specs.Band.{mean, halfWidth, spanAt}
-use Rattle.bands.specs.declared.shapes.RadialBand.{RadialBand}
-use Rattle.settings.specs.declared.shapes.Settings.{Settings}
-use Rattle.pieces.specs.Pieces.{wholeWidth, boxHit, variation, halves}
-use Rattle.pieces.specs.declared.shapes.Piece.{Piece}
+use Rattle.section.specs.profile.Vertices.{vertex, on, hit, upto, nearer, nearestOf}
+use Rattle.section.specs.points.Points.{pointDistance}
+use Rattle.section.specs.boxes.Boxes.{boxDistance}
+use Rattle.section.specs.declared.profile.shapes.Vertex.{Vertex}
+use Rattle.section.specs.declared.profile.shapes.CollisionHit.{CollisionHit}
+use Rattle.section.specs.declared.profile.shapes.Aabb.{Aabb}
+use Rattle.walk.specs.bands.Band.{mean, halfWidth, spanAt}
+use Rattle.walk.specs.declared.bands.shapes.RadialBand.{RadialBand}
+use Rattle.walk.specs.declared.settings.shapes.Settings.{Settings}
+use Rattle.walk.specs.pieces.Pieces.{wholeWidth, boxHit, variation, halves}
+use Rattle.walk.specs.declared.pieces.shapes.Piece.{Piece}
 use Rattle.walk.specs.declared.shapes.CountedHit.{CountedHit}
 
 -- ---- the starting distance

@@ -1,16 +1,16 @@
 // The starting distance: samples across the cylinder's width.
 ghost use mathlib.Core.Path.{_≡_};
 ghost use Prim.Native.Nat.{_≤_};
-ghost use Rattle.profile.specs.Vertices.{count};
+ghost use Rattle.section.specs.profile.Vertices.{count};
 ghost use Rattle.walk.specs.Walk as walk;
 ghost use Rattle.walk.specs.Steps.{sampleAt};
-use bands::RadialBand;
-use pieces::whole_width;
-use profile::CollisionHit;
-use profile::Vertex;
-use profile::Witness;
-use profile::nearer_of;
-use signed::signed_distance_2d;
+use crate::bands::RadialBand;
+use crate::pieces::whole_width;
+use section::CollisionHit;
+use section::Vertex;
+use section::Witness;
+use section::nearer_of;
+use section::signed_distance_2d;
 
 // At z the least, the greatest and the mean radius, against the best so far.
 fn sample_at(s: &[f64], b: RadialBand, z: f64, best: CollisionHit) -> CollisionHit

@@ -1,5 +1,5 @@
 // The hit of a walk, with its counts.
-use profile::CollisionHit;
+use section::CollisionHit;
 
 // A hit with how many boxes were measured, the most pieces that waited at any one time, and
 // whether the walk was cut.

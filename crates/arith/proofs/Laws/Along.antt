@@ -10,13 +10,13 @@ use native.Mathlib.Omega.{arith}
 use lib.Dec.{T}
 use lib.Ieee.{add, fin, Float, Format, inf, lt, mul, nan, sub}
 use lib.Pow.{pow-pos}
-use Rattle.roots.proofs.Numbers.{decide}
-use Rattle.roots.proofs.Rounding.Key.{finite-inside, finiteNumber, key, key-is, magnitude, mid, mid-pos, negative, number}
-use Rattle.roots.proofs.Rounding.Key.{number-of, representable-of, side, unit, unit-pos}
-use Rattle.roots.proofs.Rounding.KeyOrder.{lt-key}
-use Rattle.roots.proofs.Rounding.Product.{mul-number, negativePart, positivePart}
-use Rattle.roots.proofs.Rounding.RoundKey.{roundKey, roundKey-mono, roundKey-side}
-use Rattle.roots.proofs.Rounding.Sum.{add-key, add-number, sub-key}
+use Rattle.arith.proofs.roots.Numbers.{decide}
+use Rattle.arith.proofs.roots.Rounding.Key.{finite-inside, finiteNumber, key, key-is, magnitude, mid, mid-pos, negative, number}
+use Rattle.arith.proofs.roots.Rounding.Key.{number-of, representable-of, side, unit, unit-pos}
+use Rattle.arith.proofs.roots.Rounding.KeyOrder.{lt-key}
+use Rattle.arith.proofs.roots.Rounding.Product.{mul-number, negativePart, positivePart}
+use Rattle.arith.proofs.roots.Rounding.RoundKey.{roundKey, roundKey-mono, roundKey-side}
+use Rattle.arith.proofs.roots.Rounding.Sum.{add-key, add-number, sub-key}
 use Rattle.arith.proofs.Laws.Exact.{add-ge, roundKey-self}
 use Rattle.arith.proofs.Laws.Monotone.{add-key-mono, times-key}
 use Rattle.arith.proofs.Laws.OrderHeld.{not-less-nan}

@@ -9,11 +9,11 @@ use lib.Ieee.{div, emax, Float, Format, low, neg, prec}
 use lib.Pow.{pow-add, pow-lt, pow-mono, pow-pos}
 use Rattle.arith.proofs.Laws.Bounds.{div-within, roundKey-within, Within}
 use Rattle.arith.proofs.Laws.Bounds.{within-finiteNumber}
-use Rattle.roots.proofs.Rounding.Key.{finiteNumber, key, mid, number, number-of}
-use Rattle.roots.proofs.Rounding.Key.{prec-pos, unit}
-use Rattle.roots.proofs.Rounding.Product.{negativePart, positivePart}
-use Rattle.roots.proofs.Rounding.Quotient.{div-key-neg, div-number, div-number-neg}
-use Rattle.roots.proofs.Rounding.Sum.{neg-finiteNumber, neg-key}
+use Rattle.arith.proofs.roots.Rounding.Key.{finiteNumber, key, mid, number, number-of}
+use Rattle.arith.proofs.roots.Rounding.Key.{prec-pos, unit}
+use Rattle.arith.proofs.roots.Rounding.Product.{negativePart, positivePart}
+use Rattle.arith.proofs.roots.Rounding.Quotient.{div-key-neg, div-number, div-number-neg}
+use Rattle.arith.proofs.roots.Rounding.Sum.{neg-finiteNumber, neg-key}
 
 abbrev pub overflow : Format → ℕ
 overflow f = low f + suc (emax f)

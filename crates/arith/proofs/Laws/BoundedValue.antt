@@ -15,12 +15,12 @@ use lib.Pow.{pow-add, pow-lt, pow-mono}
 use Rattle.arith.proofs.Laws.Bounded.{Bounded, bounded-within, mid-lt, overflow}
 use Rattle.arith.proofs.Laws.Bounds.{magnitude-within, Within, within-finiteNumber}
 use Rattle.arith.proofs.Laws.RootBounded.{root-bounded, squares-le}
-use Rattle.roots.proofs.Rounding.Fraction.{rounded, rounded-le}
-use Rattle.roots.proofs.Rounding.Key.{finite-of, finiteNumber, key-is, magnitude, mid, prec-pos, representable-of, side}
-use Rattle.roots.proofs.Rounding.Key.{unit, unit-pos}
-use Rattle.roots.proofs.Rounding.RoundKey.{round-key, round-number}
-use Rattle.roots.proofs.Squares.{square}
-use Rattle.roots.specs.Roots.{hypot}
+use Rattle.arith.proofs.roots.Rounding.Fraction.{rounded, rounded-le}
+use Rattle.arith.proofs.roots.Rounding.Key.{finite-of, finiteNumber, key-is, magnitude, mid, prec-pos, representable-of, side}
+use Rattle.arith.proofs.roots.Rounding.Key.{unit, unit-pos}
+use Rattle.arith.proofs.roots.Rounding.RoundKey.{round-key, round-number}
+use Rattle.arith.proofs.roots.Squares.{square}
+use Rattle.arith.specs.roots.Roots.{hypot}
 
 pub data BoundedValue (f : Format) (j : ℕ) : Float → Type 0 where
   bounded-value : {s : Bool} {m : ℕ} {e : ℤ} → m * up e * unit f ≤ 2 ^ j * down e → BoundedValue f j (fin s m e)

@@ -5,12 +5,12 @@ use native.Mathlib.Nat.{mul-le-mul-left, mul-le-mul-right}
 use native.Mathlib.Omega.{arith}
 use lib.Dec.{T}
 use lib.Ieee.{div, Float, Format, prec}
-use Rattle.roots.proofs.Rounding.Fraction.{rounded, rounded-le}
-use Rattle.roots.proofs.Rounding.Key.{finite-inside, finiteNumber, key, key-is, magnitude, magnitude-le, mid}
-use Rattle.roots.proofs.Rounding.Key.{negative, number, number-of, prec-pos, side, unit}
-use Rattle.roots.proofs.Rounding.Product.{negativePart, positivePart}
-use Rattle.roots.proofs.Rounding.Quotient.{div-key}
-use Rattle.roots.proofs.Rounding.RoundKey.{roundKey}
+use Rattle.arith.proofs.roots.Rounding.Fraction.{rounded, rounded-le}
+use Rattle.arith.proofs.roots.Rounding.Key.{finite-inside, finiteNumber, key, key-is, magnitude, magnitude-le, mid}
+use Rattle.arith.proofs.roots.Rounding.Key.{negative, number, number-of, prec-pos, side, unit}
+use Rattle.arith.proofs.roots.Rounding.Product.{negativePart, positivePart}
+use Rattle.arith.proofs.roots.Rounding.Quotient.{div-key}
+use Rattle.arith.proofs.roots.Rounding.RoundKey.{roundKey}
 
 -- ---- |x| is at most w ticks
 pub record Within (f : Format) (w : ℕ) (x : Float) : Type 0 where

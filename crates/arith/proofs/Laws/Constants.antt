@@ -6,7 +6,7 @@ use mathlib.Core.List.{[], _∷_, map}
 use mathlib.Core.Bool.{true, false}
 use lib.Ieee.{Float, nan, inf, binary32, binary64, ofBits, round}
 use Rattle.arith.specs.F64.{e-8, e-9, e-12, e-15, e-18, e-24, limit}
-use Rattle.roots.specs.Roots.{sqrt, hypot}
+use Rattle.arith.specs.roots.Roots.{sqrt, hypot}
 
 -- 1e-8 is the rounded fraction 1 / 10 ^ 8, and so on
 pub nearest-decimals :

@@ -11,11 +11,11 @@ use lib.Pow.{pow-pos}
 use Rattle.arith.proofs.Laws.Bounds.{Within}
 use Rattle.arith.proofs.Laws.Exact.{roundKey-self}
 use Rattle.arith.proofs.Laws.Middle.{Between, half-near, IsHalf, middle, sum-finiteNumber}
-use Rattle.roots.proofs.Numbers.{decide}
-use Rattle.roots.proofs.Rounding.Key.{finiteNumber, key, mid, number-of}
-use Rattle.roots.proofs.Rounding.KeyOrder.{lt→key}
-use Rattle.roots.proofs.Rounding.RoundKey.{roundKey, roundKey-mono, roundKey-near}
-use Rattle.roots.proofs.Rounding.Sum.{add-key, sub-key, sub-number}
+use Rattle.arith.proofs.roots.Numbers.{decide}
+use Rattle.arith.proofs.roots.Rounding.Key.{finiteNumber, key, mid, number-of}
+use Rattle.arith.proofs.roots.Rounding.KeyOrder.{lt→key}
+use Rattle.arith.proofs.roots.Rounding.RoundKey.{roundKey, roundKey-mono, roundKey-near}
+use Rattle.arith.proofs.roots.Rounding.Sum.{add-key, sub-key, sub-number}
 
 -- ---- twice the middle is the ends' sum to within half a unit in the last place of the sum, and a tick
 module _ (f : Format) (a b : Float) (p : T (finiteNumber f a)) (q : T (finiteNumber f b)) (w : ℕ) (A : Within f w a)

@@ -15,13 +15,13 @@ use lib.Ieee.Exact.{HasValue, round-exact}
 use lib.Ieee.Fits.{and-l, and-r, down-pos}
 use lib.IntN.{ℤ, pos}
 use lib.Pow.{pow-pos}
-use Rattle.roots.proofs.Rounding.Fraction.{rounded, rounded-fix}
-use Rattle.roots.proofs.Rounding.Key.{finite-of, finiteNumber, key, key-is, magnitude, magnitude-le, mid, negative}
-use Rattle.roots.proofs.Rounding.Key.{negative-of-value, number, number-of, plusZero, plusZero-finiteNumber, plusZero-key}
-use Rattle.roots.proofs.Rounding.Key.{Representable, representable, representable-of, side, unit}
-use Rattle.roots.proofs.Rounding.RoundKey.{Difference, roundKey, roundKey-mono, roundKey-side}
-use Rattle.roots.proofs.Rounding.Sum.{add-key, add-number, sub-key, sub-number}
-use Rattle.roots.proofs.Rounding.KeyOrder.{cross, key→le}
+use Rattle.arith.proofs.roots.Rounding.Fraction.{rounded, rounded-fix}
+use Rattle.arith.proofs.roots.Rounding.Key.{finite-of, finiteNumber, key, key-is, magnitude, magnitude-le, mid, negative}
+use Rattle.arith.proofs.roots.Rounding.Key.{negative-of-value, number, number-of, plusZero, plusZero-finiteNumber, plusZero-key}
+use Rattle.arith.proofs.roots.Rounding.Key.{Representable, representable, representable-of, side, unit}
+use Rattle.arith.proofs.roots.Rounding.RoundKey.{Difference, roundKey, roundKey-mono, roundKey-side}
+use Rattle.arith.proofs.roots.Rounding.Sum.{add-key, add-number, sub-key, sub-number}
+use Rattle.arith.proofs.roots.Rounding.KeyOrder.{cross, key→le}
 use Rattle.arith.proofs.Laws.OrderHeld.{number-held}
 
 -- ---- fixed points: (a - b) / c is the signed n = q * 2 ^ j

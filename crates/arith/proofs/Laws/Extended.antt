@@ -12,8 +12,8 @@ use lib.Ieee.Scale.{finite}
 use lib.IntN.{ℤ}
 use lib.Pow.{pow-pos}
 use Rattle.arith.specs.Num.{isFinite}
-use Rattle.roots.proofs.Rounding.Key.{key, mid, number, finiteNumber, finite-of}
-use Rattle.roots.proofs.Rounding.Sum.{add-number, sub-key}
+use Rattle.arith.proofs.roots.Rounding.Key.{key, mid, number, finiteNumber, finite-of}
+use Rattle.arith.proofs.roots.Rounding.Sum.{add-number, sub-key}
 use Rattle.arith.proofs.Laws.Exact.{add-ge, roundKey-fix}
 use Rattle.arith.proofs.Laws.OrderHeld.{held-number, number-held}
 

@@ -8,12 +8,12 @@ use mathlib.Core.Path.{_≡_, refl, subst, sym, _∙_}
 use lib.Dec.{T}
 use lib.Ieee.{add, fin, fits, Float, Format, inf, isNan, le, lt, nan, neg, sub}
 use lib.Ieee.Fits.{and-i, and-l, sub-fits}
-use Rattle.roots.specs.Roots.{hypot}
-use Rattle.roots.proofs.Rounding.Key.{finiteNumber, key, mid, number, number-of}
-use Rattle.roots.proofs.Rounding.Key as keys
-use Rattle.roots.proofs.Rounding.KeyOrder.{key→le, le→key, nlt→key}
-use Rattle.roots.proofs.Rounding.RoundKey.{roundKey}
-use Rattle.roots.proofs.Rounding.Sum.{neg-key, sub-key, sub-number}
+use Rattle.arith.specs.roots.Roots.{hypot}
+use Rattle.arith.proofs.roots.Rounding.Key.{finiteNumber, key, mid, number, number-of}
+use Rattle.arith.proofs.roots.Rounding.Key as keys
+use Rattle.arith.proofs.roots.Rounding.KeyOrder.{key→le, le→key, nlt→key}
+use Rattle.arith.proofs.roots.Rounding.RoundKey.{roundKey}
+use Rattle.arith.proofs.roots.Rounding.Sum.{neg-key, sub-key, sub-number}
 use Rattle.arith.proofs.Laws.Along.{add-nan}
 use Rattle.arith.proofs.Laws.Extended.{neg-number}
 use Rattle.arith.proofs.Laws.Hypot.{hypot-comm, hypot-neg, inf-key, inf-number, le-inf}

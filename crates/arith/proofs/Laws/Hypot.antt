@@ -11,12 +11,12 @@ use lib.Ieee.Fits.{and-i, and-l, and-r, inf-fits, nan-fits}
 use lib.Ieee.Scale.{finite}
 use lib.IntN.{ℤ}
 use Rattle.arith.proofs.Laws.RootKey.{root-fits, root-ge, root-mono, root-number}
-use Rattle.roots.proofs.Rounding.Fraction.{rounded}
-use Rattle.roots.proofs.Rounding.Key.{finiteNumber, key, key-is, magnitude, mid, negative, number, finite-of}
-use Rattle.roots.proofs.Rounding.Key.{representable-of, side, unit}
-use Rattle.roots.proofs.Rounding.KeyOrder.{key→le, le→key}
-use Rattle.roots.proofs.Squares.{square}
-use Rattle.roots.specs.Roots.{hypot, root, sqrt, ticks}
+use Rattle.arith.proofs.roots.Rounding.Fraction.{rounded}
+use Rattle.arith.proofs.roots.Rounding.Key.{finiteNumber, key, key-is, magnitude, mid, negative, number, finite-of}
+use Rattle.arith.proofs.roots.Rounding.Key.{representable-of, side, unit}
+use Rattle.arith.proofs.roots.Rounding.KeyOrder.{key→le, le→key}
+use Rattle.arith.proofs.roots.Squares.{square}
+use Rattle.arith.specs.roots.Roots.{hypot, root, sqrt, ticks}
 use Rattle.arith.proofs.Laws.NearestRoot.{NearestRoot, root-nearest, root-plus}
 
 -- IEEE 754's abs: the sign is cleared

@@ -7,10 +7,10 @@ use native.Mathlib.Nat.{le-antisymm, le-refl}
 use native.Mathlib.Omega.{arith}
 use lib.Dec.{T}
 use lib.Ieee.{fits, Float, Format, le, neg}
-use Rattle.roots.proofs.Rounding.Key.{key, key-is, magnitude, magnitude-le, mid, negative, number, side}
-use Rattle.roots.proofs.Rounding.KeyOrder.{key→le, le→key}
-use Rattle.roots.proofs.Rounding.Sum.{neg-key}
-use Rattle.roots.specs.Roots.{hypot}
+use Rattle.arith.proofs.roots.Rounding.Key.{key, key-is, magnitude, magnitude-le, mid, negative, number, side}
+use Rattle.arith.proofs.roots.Rounding.KeyOrder.{key→le, le→key}
+use Rattle.arith.proofs.roots.Rounding.Sum.{neg-key}
+use Rattle.arith.specs.roots.Roots.{hypot}
 use Rattle.arith.specs.Num.{max}
 use Rattle.arith.proofs.Laws.Exact.{key-unique}
 use Rattle.arith.proofs.Laws.Extended.{neg-number}

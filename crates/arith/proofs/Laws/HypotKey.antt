@@ -9,12 +9,12 @@ use lib.Ieee.{fin, Float, Format, inf, nan}
 use Rattle.arith.proofs.Laws.Hypot.{hypot-root, sqrt-root}
 use Rattle.arith.proofs.Laws.Monotone.{keySize}
 use Rattle.arith.proofs.Laws.RootKey.{root-key}
-use Rattle.roots.proofs.Root.Sticky.{stickyRoot}
-use Rattle.roots.proofs.Rounding.Key.{finite-of, finiteNumber, key, key-is, magnitude, magnitude-le, mid}
-use Rattle.roots.proofs.Rounding.Key.{negative, number-of, side, unit}
-use Rattle.roots.proofs.Rounding.Product.{positivePart, positivePart-is}
-use Rattle.roots.proofs.Rounding.RoundKey.{roundKey-side}
-use Rattle.roots.specs.Roots.{hypot, root, sqrt}
+use Rattle.arith.proofs.roots.Root.Sticky.{stickyRoot}
+use Rattle.arith.proofs.roots.Rounding.Key.{finite-of, finiteNumber, key, key-is, magnitude, magnitude-le, mid}
+use Rattle.arith.proofs.roots.Rounding.Key.{negative, number-of, side, unit}
+use Rattle.arith.proofs.roots.Rounding.Product.{positivePart, positivePart-is}
+use Rattle.arith.proofs.roots.Rounding.RoundKey.{roundKey-side}
+use Rattle.arith.specs.roots.Roots.{hypot, root, sqrt}
 
 pub keySize-magnitude : (f : Format) (x : Float) → T (finiteNumber f x) → keySize f x ≡ magnitude f x
 unfolding keySize

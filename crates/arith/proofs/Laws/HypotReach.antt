@@ -7,10 +7,10 @@ use native.Mathlib.Omega.{arith}
 use lib.Dec.{T}
 use lib.Ieee.{eq, fin, fits, Float, Format, inf, isNan, le, lt, nan, neg}
 use lib.Ieee.Fits.{neg-fits}
-use Rattle.roots.specs.Roots.{hypot}
-use Rattle.roots.proofs.Pattern.Special.{like-itself}
-use Rattle.roots.proofs.Rounding.Key.{key-is, magnitude, mid, negative, number, side}
-use Rattle.roots.proofs.Rounding.KeyOrder.{key→le}
+use Rattle.arith.specs.roots.Roots.{hypot}
+use Rattle.arith.proofs.roots.Pattern.Special.{like-itself}
+use Rattle.arith.proofs.roots.Rounding.Key.{key-is, magnitude, mid, negative, number, side}
+use Rattle.arith.proofs.roots.Rounding.KeyOrder.{key→le}
 use Rattle.arith.specs.F64.{𝟘}
 use Rattle.arith.specs.Num.{abs}
 use Rattle.arith.proofs.Laws.Order.{le-trans-float, lt-is-not-le}

@@ -11,16 +11,16 @@ use borrow.Author.Tests.{le-ltb}
 use lib.Dec.{leb→le, T}
 use lib.Ieee.{add, binary64, fin, fits, Float, Format, inf, lt, mul, nan, ofBits, prec}
 use lib.Ieee.Fits.{and-i}
-use Rattle.roots.specs.Roots.{hypot}
-use Rattle.roots.proofs.Numbers.{decide}
-use Rattle.roots.proofs.Root.Sticky.{square-lt}
-use Rattle.roots.proofs.Rounding.Fraction.{rounded}
-use Rattle.roots.proofs.Rounding.Key.{finite-inside, finiteNumber, key, key-is, magnitude, mid, mid-pos, negative}
-use Rattle.roots.proofs.Rounding.Key.{inf-key, number-of, prec-pos, representable-of, side, unit, unit-pos}
-use Rattle.roots.proofs.Rounding.KeyOrder.{lt-key, lt→key}
-use Rattle.roots.proofs.Rounding.Product.{mul-number, positivePart, negativePart}
-use Rattle.roots.proofs.Rounding.RoundKey.{roundKey, roundKey-side}
-use Rattle.roots.proofs.Rounding.Sum.{add-key, add-number}
+use Rattle.arith.specs.roots.Roots.{hypot}
+use Rattle.arith.proofs.roots.Numbers.{decide}
+use Rattle.arith.proofs.roots.Root.Sticky.{square-lt}
+use Rattle.arith.proofs.roots.Rounding.Fraction.{rounded}
+use Rattle.arith.proofs.roots.Rounding.Key.{finite-inside, finiteNumber, key, key-is, magnitude, mid, mid-pos, negative}
+use Rattle.arith.proofs.roots.Rounding.Key.{inf-key, number-of, prec-pos, representable-of, side, unit, unit-pos}
+use Rattle.arith.proofs.roots.Rounding.KeyOrder.{lt-key, lt→key}
+use Rattle.arith.proofs.roots.Rounding.Product.{mul-number, positivePart, negativePart}
+use Rattle.arith.proofs.roots.Rounding.RoundKey.{roundKey, roundKey-side}
+use Rattle.arith.proofs.roots.Rounding.Sum.{add-key, add-number}
 use Rattle.arith.proofs.Laws.Hypot.{hypot-comm, hypot-infinite, hypot-number, infinite, Kind, kind, usual}
 use Rattle.arith.proofs.Laws.HypotKey.{hypot-is, keySize-magnitude}
 use Rattle.arith.proofs.Laws.HypotReach.{at-most, no-number-less}

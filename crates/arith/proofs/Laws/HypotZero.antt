@@ -15,11 +15,11 @@ use lib.Pow.{pow-pos}
 use Rattle.arith.proofs.Laws.Exact.{sub-zero, value-unique}
 use Rattle.arith.proofs.Laws.Hypot.{hypot-comm, hypot-infinite, hypot-root, hypot-unsigned, unsigned, unsigned-number}
 use Rattle.arith.proofs.Laws.OrderHeld.{true→T}
-use Rattle.roots.proofs.Root.Rounds.{root-round}
-use Rattle.roots.proofs.Root.Sticky.{stickyRoot, stickyRoot-ge, stickyRoot-le}
-use Rattle.roots.proofs.Rounding.Key.{finiteNumber, magnitude, mid, number-of, Representable, representable-of}
-use Rattle.roots.proofs.Rounding.Key.{plusZero, unit, unit-pos}
-use Rattle.roots.specs.Roots.{hypot, root}
+use Rattle.arith.proofs.roots.Root.Rounds.{root-round}
+use Rattle.arith.proofs.roots.Root.Sticky.{stickyRoot, stickyRoot-ge, stickyRoot-le}
+use Rattle.arith.proofs.roots.Rounding.Key.{finiteNumber, magnitude, mid, number-of, Representable, representable-of}
+use Rattle.arith.proofs.roots.Rounding.Key.{plusZero, unit, unit-pos}
+use Rattle.arith.specs.roots.Roots.{hypot, root}
 
 stickyRoot-square : (t : ℕ) → stickyRoot (t * t) ≡ 4 * t
 stickyRoot-square t =

@@ -12,10 +12,10 @@ use lib.Pow.{pow-add, pow-pos}
 use Rattle.arith.specs.F64.{_⊘_}
 use Rattle.arith.proofs.Laws.Bounded.{Bounded, bounded-of-within, mid-lt, one-lt}
 use Rattle.arith.proofs.Laws.Bounds.{Within, div-within, within-finiteNumber}
-use Rattle.roots.proofs.Rounding.Fraction.{rounded, rounded-ge, rounded-le, rounded-mono}
-use Rattle.roots.proofs.Rounding.Key.{finiteNumber, key, mid, number, prec-pos, unit, unit-pos}
-use Rattle.roots.proofs.Rounding.Quotient.{div-number}
-use Rattle.roots.proofs.Rounding.RoundKey.{round-key, round-number}
+use Rattle.arith.proofs.roots.Rounding.Fraction.{rounded, rounded-ge, rounded-le, rounded-mono}
+use Rattle.arith.proofs.roots.Rounding.Key.{finiteNumber, key, mid, number, prec-pos, unit, unit-pos}
+use Rattle.arith.proofs.roots.Rounding.Quotient.{div-number}
+use Rattle.arith.proofs.roots.Rounding.RoundKey.{round-key, round-number}
 use Rattle.arith.proofs.Laws.Sizes.{Finite}
 
 module _ (f : Format) where

@@ -5,9 +5,9 @@ use native.Mathlib.Omega.{arith}
 use lib.Dec.{T}
 use lib.Ieee.{Float, Format}
 use Rattle.arith.proofs.Laws.Hypot.{hypot-ge, hypot-ge-right, hypot-number, unsigned, unsigned-key, unsigned-number}
-use Rattle.roots.proofs.Rounding.Key.{key, key-is, magnitude, magnitude-le, mid, negative, number, side}
-use Rattle.roots.proofs.Rounding.KeyOrder.{le→key}
-use Rattle.roots.specs.Roots.{hypot}
+use Rattle.arith.proofs.roots.Rounding.Key.{key, key-is, magnitude, magnitude-le, mid, negative, number, side}
+use Rattle.arith.proofs.roots.Rounding.KeyOrder.{le→key}
+use Rattle.arith.specs.roots.Roots.{hypot}
 
 -- |x| ≤ h
 pub record Leg (f : Format) (x h : Float) : Type 0 where

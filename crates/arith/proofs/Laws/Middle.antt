@@ -13,11 +13,11 @@ use lib.Pow.{pow-mono, pow-pos}
 use Rattle.arith.proofs.Laws.Bounds.{magnitude-within, Within}
 use Rattle.arith.proofs.Laws.Exact.{diff-key, roundKey-fix, roundKey-self, roundKey-twice}
 use Rattle.arith.proofs.Laws.Monotone.{times-key}
-use Rattle.roots.proofs.Rounding.Key.{finite-inside, finiteNumber, key, key-is, magnitude, mid, negative}
-use Rattle.roots.proofs.Rounding.Key.{Representable, representable-of, side, unit, unit-pos}
-use Rattle.roots.proofs.Rounding.Product.{mul-number, negativePart, positivePart}
-use Rattle.roots.proofs.Rounding.RoundKey.{roundKey, roundKey-mono, roundKey-near, roundKey-same}
-use Rattle.roots.proofs.Rounding.Sum.{add-key, add-number}
+use Rattle.arith.proofs.roots.Rounding.Key.{finite-inside, finiteNumber, key, key-is, magnitude, mid, negative}
+use Rattle.arith.proofs.roots.Rounding.Key.{Representable, representable-of, side, unit, unit-pos}
+use Rattle.arith.proofs.roots.Rounding.Product.{mul-number, negativePart, positivePart}
+use Rattle.arith.proofs.roots.Rounding.RoundKey.{roundKey, roundKey-mono, roundKey-near, roundKey-same}
+use Rattle.arith.proofs.roots.Rounding.Sum.{add-key, add-number}
 
 -- ---- HALVING: h is one half
 unfoldable pub IsHalf : Format → Float → Type 0

@@ -10,13 +10,13 @@ use native.Mathlib.Omega.{arith}
 use lib.Dec.{T}
 use lib.Ieee.{add, div, Float, Format, le, mul, neg, sub}
 use lib.Pow.{pow-pos}
-use Rattle.roots.proofs.Numbers.{decide}
-use Rattle.roots.proofs.Rounding.Key.{finiteNumber, key, mid, number, number-of, unit, unit-pos}
-use Rattle.roots.proofs.Rounding.KeyOrder.{key→le, le→key}
-use Rattle.roots.proofs.Rounding.Product.{mul-key, negativePart, positivePart, mul-number}
-use Rattle.roots.proofs.Rounding.Quotient.{div-key, div-number}
-use Rattle.roots.proofs.Rounding.RoundKey.{roundKey, roundKey-mono, roundKey-side}
-use Rattle.roots.proofs.Rounding.Sum.{add-key, add-number, neg-key, sub-key, sub-number, neg-finiteNumber}
+use Rattle.arith.proofs.roots.Numbers.{decide}
+use Rattle.arith.proofs.roots.Rounding.Key.{finiteNumber, key, mid, number, number-of, unit, unit-pos}
+use Rattle.arith.proofs.roots.Rounding.KeyOrder.{key→le, le→key}
+use Rattle.arith.proofs.roots.Rounding.Product.{mul-key, negativePart, positivePart, mul-number}
+use Rattle.arith.proofs.roots.Rounding.Quotient.{div-key, div-number}
+use Rattle.arith.proofs.roots.Rounding.RoundKey.{roundKey, roundKey-mono, roundKey-side}
+use Rattle.arith.proofs.roots.Rounding.Sum.{add-key, add-number, neg-key, sub-key, sub-number, neg-finiteNumber}
 
 -- (a + b) ≤ (c + d) times C times u
 lift : (a b c d C u : ℕ) → a + b ≤ c + d → a * C * u + b * C * u ≤ c * C * u + d * C * u

@@ -11,16 +11,16 @@ use lib.Ieee.{emax, fin, Float, Format, inf, low, nan, odd, prec, units}
 use lib.Ieee.Fits.{and-l, and-i, reach}
 use lib.Ieee.Order.{drop, kept}
 use lib.Pow.{pow-add, pow-lt}
-use Rattle.roots.proofs.Numbers.{decide}
+use Rattle.arith.proofs.roots.Numbers.{decide}
 use Rattle.arith.proofs.Laws.RootKey.{root-key, root-number}
-use Rattle.roots.proofs.Root.Sticky.{ge-stickyRoot, le-stickyRoot, stickyRoot, stickyRoot-ge, stickyRoot-le}
-use Rattle.roots.proofs.Rounding.Fraction.{kept-ge, kept-le, rounded}
-use Rattle.roots.proofs.Rounding.Key.{key, key-is, magnitude, magnitude-le, mid, mid-pos, negative, number}
-use Rattle.roots.proofs.Rounding.Key.{prec-pos, representable-of, side}
-use Rattle.roots.proofs.Rounding.Nearest.{rounded-nearest-above, rounded-nearest-below, rounded-tie-even}
-use Rattle.roots.proofs.Rounding.RoundKey.{roundKey-side}
-use Rattle.roots.specs.Steps.{sq}
-use Rattle.roots.specs.Roots.{root}
+use Rattle.arith.proofs.roots.Root.Sticky.{ge-stickyRoot, le-stickyRoot, stickyRoot, stickyRoot-ge, stickyRoot-le}
+use Rattle.arith.proofs.roots.Rounding.Fraction.{kept-ge, kept-le, rounded}
+use Rattle.arith.proofs.roots.Rounding.Key.{key, key-is, magnitude, magnitude-le, mid, mid-pos, negative, number}
+use Rattle.arith.proofs.roots.Rounding.Key.{prec-pos, representable-of, side}
+use Rattle.arith.proofs.roots.Rounding.Nearest.{rounded-nearest-above, rounded-nearest-below, rounded-tie-even}
+use Rattle.arith.proofs.roots.Rounding.RoundKey.{roundKey-side}
+use Rattle.arith.specs.roots.Steps.{sq}
+use Rattle.arith.specs.roots.Roots.{root}
 
 -- x's last digit is 0: its magnitude is q * 2 ^ j with 2 ^ j its last place and q even
 pub record Even (f : Format) (x : Float) : Type 0 where

@@ -8,13 +8,13 @@ use native.Mathlib.Nat.{mul-one, two-pow-succ, zero-lt-suc}
 use native.Mathlib.Omega.{arith}
 use lib.Dec.{T}
 use lib.Ieee.{add, div, Float, Format, mul, prec, sub}
-use Rattle.roots.proofs.Rounding.Key.{finiteNumber, key, mid, prec-pos, unit, unit-pos}
-use Rattle.roots.proofs.Rounding.Product.{mul-key, negativePart, positivePart}
-use Rattle.roots.proofs.Rounding.Quotient.{div-key}
-use Rattle.roots.proofs.Rounding.RoundKey.{roundKey}
-use Rattle.roots.proofs.Rounding.Sum.{add-key, sub-key}
-use Rattle.roots.proofs.Root.Sticky.{double-square, ge-stickyRoot, le-stickyRoot, stickyRoot, stickyRoot-le}
-use Rattle.roots.specs.Roots.{hypot, root}
+use Rattle.arith.proofs.roots.Rounding.Key.{finiteNumber, key, mid, prec-pos, unit, unit-pos}
+use Rattle.arith.proofs.roots.Rounding.Product.{mul-key, negativePart, positivePart}
+use Rattle.arith.proofs.roots.Rounding.Quotient.{div-key}
+use Rattle.arith.proofs.roots.Rounding.RoundKey.{roundKey}
+use Rattle.arith.proofs.roots.Rounding.Sum.{add-key, sub-key}
+use Rattle.arith.proofs.roots.Root.Sticky.{double-square, ge-stickyRoot, le-stickyRoot, stickyRoot, stickyRoot-le}
+use Rattle.arith.specs.roots.Roots.{hypot, root}
 use Rattle.arith.proofs.Laws.HypotKey.{hypot-is, root-not-negative}
 use Rattle.arith.proofs.Laws.Monotone.{keySize}
 use Rattle.arith.proofs.Laws.RootKey.{root-key}

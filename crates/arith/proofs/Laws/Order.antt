@@ -8,11 +8,11 @@ use native.Mathlib.Omega.{arith}
 use lib.Dec.{leb, leb→le, le→leb, ltb, ltb→lt, lt→ltb, nleb→lt, T}
 use lib.Ieee.{down, eq, fin, Float, Format, inf, le, lt, nan, up}
 use lib.Ieee.Fits.{eq→eqb}
-use Rattle.roots.proofs.Numbers.{decide}
-use Rattle.roots.proofs.Rounding.Key.{key, number, side}
-use Rattle.roots.proofs.Rounding.KeyOrder.{eq-key, key→le, key→lt, le-key, le→key, lt-key, lt→key, nlt→key, side-eq}
-use Rattle.roots.proofs.Rounding.KeyOrder.{side-lt}
-use Rattle.roots.proofs.Tests.{lt-or-eq}
+use Rattle.arith.proofs.roots.Numbers.{decide}
+use Rattle.arith.proofs.roots.Rounding.Key.{key, number, side}
+use Rattle.arith.proofs.roots.Rounding.KeyOrder.{eq-key, key→le, key→lt, le-key, le→key, lt-key, lt→key, nlt→key, side-eq}
+use Rattle.arith.proofs.roots.Rounding.KeyOrder.{side-lt}
+use Rattle.arith.proofs.roots.Tests.{lt-or-eq}
 use Rattle.arith.specs.Num.{clamp, isFinite, max, min}
 use lib.IntN.{ℤ}
 

@@ -6,9 +6,9 @@ use borrow.Author.Tests.{le-ltb}
 use lib.Dec.{T}
 use lib.Ieee.{Float, Format, nan, inf, fin, fits, isNan, le, lt}
 use lib.Ieee.Fits.{and-i, and-l}
-use Rattle.roots.proofs.Pattern.Special.{greater}
-use Rattle.roots.proofs.Rounding.Key.{key, number}
-use Rattle.roots.proofs.Rounding.KeyOrder.{key→lt, lt-key, lt→key, nlt→key}
+use Rattle.arith.proofs.roots.Pattern.Special.{greater}
+use Rattle.arith.proofs.roots.Rounding.Key.{key, number}
+use Rattle.arith.proofs.roots.Rounding.KeyOrder.{key→lt, lt-key, lt→key, nlt→key}
 
 pub T→true : (b : Bool) → T b → b ≡ true
 T→true true h = refl

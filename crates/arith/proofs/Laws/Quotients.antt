@@ -8,8 +8,8 @@ use lib.Dec.{T, leb, leb→le, lit<, lit≤, ltb}
 use lib.Ieee.{Float, binary64, neg, ofBits}
 use Rattle.arith.specs.F64.{_⊘_, _≺_, _≼_, 𝟘, 𝟙, e-18, e-24}
 use Rattle.arith.specs.Num.{abs}
-use Rattle.roots.proofs.Rounding.Key.{key, magnitude, mid, unit}
-use Rattle.roots.proofs.Rounding.Sum.{neg-key}
+use Rattle.arith.proofs.roots.Rounding.Key.{key, magnitude, mid, unit}
+use Rattle.arith.proofs.roots.Rounding.Sum.{neg-key}
 use Rattle.arith.proofs.Laws.Bounded.{between-bounded, Bounded, div-bounded, div-bounded-neg, overflow}
 use Rattle.arith.proofs.Laws.SizedOrder.{below-key, not-below-key, not-le-key}
 use Rattle.arith.proofs.Laws.Sizes.{Finite, K, M, abs-finite, below-overflow, e-18-finite, e-24-finite, finite-number}

@@ -8,9 +8,9 @@ use lib.Pow.{pow-add, pow-mono}
 use Rattle.arith.proofs.Laws.Bounded.{Bounded, bounded-of-within, one-lt, overflow}
 use Rattle.arith.proofs.Laws.HypotKey.{root-not-negative, sqrt-is}
 use Rattle.arith.proofs.Laws.RootKey.{root-le, root-number}
-use Rattle.roots.proofs.Rounding.Key.{key, mid, unit}
-use Rattle.roots.proofs.Rounding.Product.{positivePart}
-use Rattle.roots.specs.Roots.{root, sqrt}
+use Rattle.arith.proofs.roots.Rounding.Key.{key, mid, unit}
+use Rattle.arith.proofs.roots.Rounding.Product.{positivePart}
+use Rattle.arith.specs.roots.Roots.{root, sqrt}
 
 -- a root: N at most (2 ^ k) squared
 pub root-bounded : (f : Format) (k N : ℕ) → k < overflow f → N ≤ 2 ^ k * 2 ^ k → Bounded f k (root f N)

@@ -10,11 +10,11 @@ use lib.Ieee.{fits, Float, Format, isNan, prec}
 use lib.Ieee.Fits.{and-l}
 use Rattle.arith.proofs.Laws.Bounds.{roundKey-within}
 use Rattle.arith.proofs.Laws.Exact.{roundKey-fix}
-use Rattle.roots.proofs.Root.Rounds.{root-round}
-use Rattle.roots.proofs.Root.Sticky.{double-square, stickyRoot, stickyRoot-ge, stickyRoot-le, stickyRoot-mono}
-use Rattle.roots.proofs.Rounding.Key.{key, mid, number, unit, unit-pos}
-use Rattle.roots.proofs.Rounding.RoundKey.{round-number, round-roundKey, roundKey, roundKey-mono}
-use Rattle.roots.specs.Roots.{root}
+use Rattle.arith.proofs.roots.Root.Rounds.{root-round}
+use Rattle.arith.proofs.roots.Root.Sticky.{double-square, stickyRoot, stickyRoot-ge, stickyRoot-le, stickyRoot-mono}
+use Rattle.arith.proofs.roots.Rounding.Key.{key, mid, number, unit, unit-pos}
+use Rattle.arith.proofs.roots.Rounding.RoundKey.{round-number, round-roundKey, roundKey, roundKey-mono}
+use Rattle.arith.specs.roots.Roots.{root}
 
 pub root-key : (f : Format) (N : ℕ) → key f (root f N) ≡ roundKey f (stickyRoot N) 0 4
 root-key f N = ap (λ (x : Float). key f x) (root-round f N) ∙ round-roundKey f false (stickyRoot N) (4 * unit f)

@@ -14,10 +14,10 @@ use lib.Ieee.{emax, Format, low, prec, size}
 use lib.Ieee.Digits.{size-lt, size-reaches}
 use lib.Ieee.Order.{drop, kept}
 use lib.Pow.{pow-add, pow-lt, pow-mono}
-use Rattle.roots.proofs.Numbers.{decide}
-use Rattle.roots.proofs.Rounding.Fraction.{all-in-use, kept-ge, rounded, rounded-fix, rounded-le, rounded-near, WithinHalf}
-use Rattle.roots.proofs.Rounding.Key.{mid, prec-pos}
-use Rattle.roots.proofs.Rounding.RoundKey.{roundKey, roundKey-side, times-sub}
+use Rattle.arith.proofs.roots.Numbers.{decide}
+use Rattle.arith.proofs.roots.Rounding.Fraction.{all-in-use, kept-ge, rounded, rounded-fix, rounded-le, rounded-near, WithinHalf}
+use Rattle.arith.proofs.roots.Rounding.Key.{mid, prec-pos}
+use Rattle.arith.proofs.roots.Rounding.RoundKey.{roundKey, roundKey-side, times-sub}
 
 -- x and y are at most e apart
 pub record Close (x y e : ℕ) : Type 0 where

@@ -11,8 +11,8 @@ use lib.Ieee.{size}
 use lib.Ieee.Digits.{size-lt}
 use lib.Ieee.Order.{drop, kept}
 use lib.Pow.{pow-mono}
-use Rattle.roots.proofs.Numbers.{decide}
-use Rattle.roots.proofs.Rounding.Fraction.{kept-ge, rounded, rounded-near, WithinHalf}
+use Rattle.arith.proofs.roots.Numbers.{decide}
+use Rattle.arith.proofs.roots.Rounding.Fraction.{kept-ge, rounded, rounded-near, WithinHalf}
 
 module _ (K p n c : ℕ) (P : 0 < p) (D : K ≤ 2 ^ (p - 1)) (C : 0 < c) where
   near : WithinHalf (rounded p n c * c) n (2 ^ drop p n c * c)

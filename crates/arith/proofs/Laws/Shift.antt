@@ -10,11 +10,11 @@ use lib.Ieee.Fits.{down-pos}
 use lib.IntN.{ℤ}
 use lib.Pow.{pow-pos}
 use Rattle.arith.proofs.Laws.Exact.{roundKey-self}
-use Rattle.roots.proofs.Rounding.Key.{finite-of, finiteNumber, key, key-is, magnitude, mid, representable-of}
-use Rattle.roots.proofs.Rounding.Key.{side, unit}
-use Rattle.roots.proofs.Rounding.KeyOrder.{cross}
-use Rattle.roots.proofs.Rounding.RoundKey.{Difference, round-roundKey, roundKey, roundKey-mono, roundKey-same}
-use Rattle.roots.proofs.Rounding.RoundKey.{times-sub}
+use Rattle.arith.proofs.roots.Rounding.Key.{finite-of, finiteNumber, key, key-is, magnitude, mid, representable-of}
+use Rattle.arith.proofs.roots.Rounding.Key.{side, unit}
+use Rattle.arith.proofs.roots.Rounding.KeyOrder.{cross}
+use Rattle.arith.proofs.roots.Rounding.RoundKey.{Difference, round-roundKey, roundKey, roundKey-mono, roundKey-same}
+use Rattle.arith.proofs.roots.Rounding.RoundKey.{times-sub}
 
 -- ±a as a difference
 abbrev pub plus-part : Bool → ℕ → ℕ

@@ -11,9 +11,9 @@ use lib.Ieee.{Float, binary64, down, fin, fits, lt, mul, ofBits, up}
 use lib.Ieee.Scale.{finite}
 use Rattle.arith.specs.F64.{_⊕_, _⊖_, _⊗_, _≺_, _≼_, 𝟘, ½}
 use Rattle.arith.specs.Num.{max, min}
-use Rattle.roots.specs.Roots.{hypot}
-use Rattle.roots.proofs.Rounding.Key.{finiteNumber, key, magnitude, mid, plusZero, unit}
-use Rattle.roots.proofs.Rounding.KeyOrder.{key→le, lt→key, nlt→key}
+use Rattle.arith.specs.roots.Roots.{hypot}
+use Rattle.arith.proofs.roots.Rounding.Key.{finiteNumber, key, magnitude, mid, plusZero, unit}
+use Rattle.arith.proofs.roots.Rounding.KeyOrder.{key→le, lt→key, nlt→key}
 use Rattle.arith.proofs.Laws.BoundedValue.{BoundedValue, bounded-value}
 use Rattle.arith.proofs.Laws.Exact.{sub-zero}
 use Rattle.arith.proofs.Laws.Hypot.{hypot-root}

@@ -8,8 +8,8 @@ use lib.Dec.{T, leb, leb→le, le→leb, lit≤, ltb, ltb→lt}
 use lib.Ieee.{Float, binary64, fits, neg, ofBits}
 use Rattle.arith.specs.F64.{_⊕_, _⊖_, _⊗_, _≺_, _≼_, 𝟘, 𝟙, ½, e-8, e-9, e-12, e-18, e-24}
 use Rattle.arith.specs.Num.{abs, isFinite, max, min}
-use Rattle.roots.specs.Roots.{hypot}
-use Rattle.roots.proofs.Rounding.Key.{finiteNumber, key, magnitude, mid, number, number-of, unit}
+use Rattle.arith.specs.roots.Roots.{hypot}
+use Rattle.arith.proofs.roots.Rounding.Key.{finiteNumber, key, magnitude, mid, number, number-of, unit}
 use Rattle.arith.proofs.Laws.Bounded.{Bounded, bounded-up, neg-bounded, oneAbove, overflow}
 use Rattle.arith.proofs.Laws.BoundedValue.{BoundedValue, add-value, bounded→value, hypot-value, mul-value, sub-value}
 use Rattle.arith.proofs.Laws.BoundedValue.{bounded-value, value→bounded}

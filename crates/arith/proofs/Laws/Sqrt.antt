@@ -14,11 +14,11 @@ use Rattle.arith.proofs.Laws.Hypot.{inf-key, inf-number, infinite, Kind
 use Rattle.arith.proofs.Laws.Hypot.{unsigned}
 use Rattle.arith.proofs.Laws.HypotZero.{zero-magnitude, root-of-square}
 use Rattle.arith.proofs.Laws.RootKey.{root-ge, root-le, root-mono, root-number}
-use Rattle.roots.proofs.Rounding.Key.{finiteNumber, key, key-is, magnitude, mid, mid-pos, number, number-of}
-use Rattle.roots.proofs.Rounding.Key.{plusZero, plusZero-finiteNumber, plusZero-key, representable-of, unit}
-use Rattle.roots.proofs.Rounding.Key.{unit-pos}
-use Rattle.roots.proofs.Rounding.KeyOrder.{key→le, le→key}
-use Rattle.roots.specs.Roots.{root, sqrt}
+use Rattle.arith.proofs.roots.Rounding.Key.{finiteNumber, key, key-is, magnitude, mid, mid-pos, number, number-of}
+use Rattle.arith.proofs.roots.Rounding.Key.{plusZero, plusZero-finiteNumber, plusZero-key, representable-of, unit}
+use Rattle.arith.proofs.roots.Rounding.Key.{unit-pos}
+use Rattle.arith.proofs.roots.Rounding.KeyOrder.{key→le, le→key}
+use Rattle.arith.specs.roots.Roots.{root, sqrt}
 use Rattle.arith.proofs.Laws.NearestRoot.{NearestRoot, root-nearest}
 
 -- ---- the square root of what is not below zero

@@ -11,11 +11,11 @@ use lib.Pow.{pow-add}
 use Rattle.arith.proofs.Laws.Bounded.{Bounded, bounded-of-within, one-lt, overflow}
 use Rattle.arith.proofs.Laws.Bounds.{div-within, roundKey-within, Within}
 use Rattle.arith.proofs.Laws.Leg.{Leg}
-use Rattle.roots.proofs.Rounding.Key.{finiteNumber, key, key-is, magnitude, mid, negative, Representable, representable-of}
-use Rattle.roots.proofs.Rounding.Key.{side, unit, unit-pos}
-use Rattle.roots.proofs.Rounding.Product.{mul-key, negativePart, positivePart}
-use Rattle.roots.proofs.Rounding.Quotient.{div-key, div-number}
-use Rattle.roots.proofs.Rounding.RoundKey.{roundKey, roundKey-side}
+use Rattle.arith.proofs.roots.Rounding.Key.{finiteNumber, key, key-is, magnitude, mid, negative, Representable, representable-of}
+use Rattle.arith.proofs.roots.Rounding.Key.{side, unit, unit-pos}
+use Rattle.arith.proofs.roots.Rounding.Product.{mul-key, negativePart, positivePart}
+use Rattle.arith.proofs.roots.Rounding.Quotient.{div-key, div-number}
+use Rattle.arith.proofs.roots.Rounding.RoundKey.{roundKey, roundKey-side}
 
 -- ---- one rounding keeps the side
 side-above : (f : Format) (a c : ℕ) → 0 < c → mid f ≤ roundKey f a 0 c

@@ -13,17 +13,17 @@ use lib.Ieee.Fits.{and-i, div-fits}
 use lib.Ieee.Scale.{finite}
 use lib.IntN.{pos}
 use lib.Pow.{pow-mono}
-use Rattle.roots.specs.Roots.{hypot, root}
-use Rattle.roots.proofs.Numbers.{decide}
-use Rattle.roots.proofs.Root.Sticky.{stickyRoot, stickyRoot-ge}
-use Rattle.roots.proofs.Rounding.Fraction.{rounded}
-use Rattle.roots.proofs.Rounding.Key.{finite-of, finiteNumber, key, key-is, magnitude, mid, negative, number, number-of}
-use Rattle.roots.proofs.Rounding.Key.{prec-pos, side, unit, unit-pos, value-key}
-use Rattle.roots.proofs.Rounding.KeyOrder.{le→key}
-use Rattle.roots.proofs.Rounding.Product.{mul-number, negativePart, positivePart}
-use Rattle.roots.proofs.Rounding.Quotient.{div-key}
-use Rattle.roots.proofs.Rounding.RoundKey.{roundKey-side}
-use Rattle.roots.proofs.Rounding.Sum.{neg-key}
+use Rattle.arith.specs.roots.Roots.{hypot, root}
+use Rattle.arith.proofs.roots.Numbers.{decide}
+use Rattle.arith.proofs.roots.Root.Sticky.{stickyRoot, stickyRoot-ge}
+use Rattle.arith.proofs.roots.Rounding.Fraction.{rounded}
+use Rattle.arith.proofs.roots.Rounding.Key.{finite-of, finiteNumber, key, key-is, magnitude, mid, negative, number, number-of}
+use Rattle.arith.proofs.roots.Rounding.Key.{prec-pos, side, unit, unit-pos, value-key}
+use Rattle.arith.proofs.roots.Rounding.KeyOrder.{le→key}
+use Rattle.arith.proofs.roots.Rounding.Product.{mul-number, negativePart, positivePart}
+use Rattle.arith.proofs.roots.Rounding.Quotient.{div-key}
+use Rattle.arith.proofs.roots.Rounding.RoundKey.{roundKey-side}
+use Rattle.arith.proofs.roots.Rounding.Sum.{neg-key}
 use Rattle.arith.specs.F64.{𝟘}
 use Rattle.arith.specs.Num.{abs}
 use Rattle.arith.proofs.Laws.Bounds.{roundKey-within}

@@ -11,7 +11,7 @@ use lib.Ieee.Fits.{down-pos, up-pos}
 use lib.Ieee.{Float, nan, inf, fin, le, lt, eq, ofBits, up, down}
 use Rattle.arith.specs.F64.{_≺_, _≼_, 𝟘, e-12}
 use Rattle.arith.specs.Num.{isFinite}
-use Rattle.roots.proofs.Rounding.Key.{negative}
+use Rattle.arith.proofs.roots.Rounding.Key.{negative}
 use Rattle.arith.proofs.Laws.OrderHeld.{true→T}
 
 -- no sign

@@ -2,8 +2,8 @@
 use Prim.Native.Nat.{_+_, _-_, _≤_}
 use mathlib.Core.Path.{_≡_, refl}
 use lib.ListN.{length, take, length-set}
-use Rattle.store_listing.specs.Steps.{Written}
-use Rattle.store_listing.proofs.Writing.{word-more, word-all}
+use Rattle.listings.specs.store_listing.Steps.{Written}
+use Rattle.listings.proofs.store_listing.Writing.{word-more, word-all}
 use borrow.Author.Needs.{needs}
 use Rattle.input.proofs.keep.Statement.{statement}
 use Rattle.input.proofs.keep.Tie as tie

@@ -1,7 +1,7 @@
 -- `load::main` is safe and ends: the line lies within its array.
 use native.Mathlib.Omega.{arith}
 use lib.ListN.{length-take}
-use Rattle.store_listing.proofs.Listed.{front-within}
+use Rattle.listings.proofs.store_listing.Listed.{front-within}
 use borrow.Author.Needs.{needs}
 use Rattle.load.proofs.main.Statement.{statement}
 use Rattle.load.proofs.main.Tie as tie

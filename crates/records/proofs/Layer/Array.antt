@@ -23,9 +23,9 @@ use denote.Builtin.{f64}
 use denote.Steps.{only}
 use denote.Struct.Steps.{spelt}
 use denote.Struct.Laws as struct-laws
-use Rattle.profile.proofs.shapes.Vertex as vertex
-use Rattle.profile.proofs.shapes.Vertex.Laws as vertex-laws
-use Rattle.profile.specs.declared.shapes.Vertex.{Vertex}
+use Rattle.section.proofs.profile.shapes.Vertex as vertex
+use Rattle.section.proofs.profile.shapes.Vertex.Laws as vertex-laws
+use Rattle.section.specs.declared.profile.shapes.Vertex.{Vertex}
 use Rattle.records.proofs.Layer.Form.{buffer-ty, vertex-ty}
 
 abbrev pub Elem : RattleType

@@ -25,9 +25,9 @@ use denote.Ref.{now}
 use denote.Signature.{plain}
 use denote.Slice.{sliceTy}
 use denote.Triple.Clauses.{Ended, Clauses}
-use Rattle.profile.specs.declared.shapes.Vertex.{Vertex}
-use Rattle.profile.proofs.shapes.Vertex as vertex
-use Rattle.profile.proofs.shapes.Vertex.Laws as vertex-laws
+use Rattle.section.specs.declared.profile.shapes.Vertex.{Vertex}
+use Rattle.section.proofs.profile.shapes.Vertex as vertex
+use Rattle.section.proofs.profile.shapes.Vertex.Laws as vertex-laws
 use Rattle.records.specs.Flattened.{flattened}
 use Rattle.records.specs.Steps.{OfFront}
 use Rattle.records.proofs.copying.blank.Symbol as blank

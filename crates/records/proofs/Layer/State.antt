@@ -17,7 +17,7 @@ use denote.Laws.{Is}
 use denote.Memory.{partAt, shares}
 use denote.Ref.{RefT}
 use denote.Slice.{sliceVal, Room, at-slice, codedHoleys, heres}
-use Rattle.profile.specs.declared.shapes.Vertex.{Vertex}
+use Rattle.section.specs.declared.profile.shapes.Vertex.{Vertex}
 use Rattle.records.proofs.FrontFilled.{FrontFilled}
 use Rattle.records.proofs.Layer.Form.{Form, rowOf, buffer-ty, word, vertex-ty, slice-ty}
 use Rattle.records.proofs.Layer.Array.{Elem, Buffer}

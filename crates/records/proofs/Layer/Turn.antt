@@ -39,7 +39,7 @@ use denote.Triple.Statement.{Contract, Triple}
 use denote.Triple.Clauses.{Lasts, lasts, ensured}
 use denote.Triple.Call.{calls-at-last}
 use denote.Triple.Spec.{tripleOf}
-use Rattle.profile.specs.declared.shapes.Vertex.{Vertex}
+use Rattle.section.specs.declared.profile.shapes.Vertex.{Vertex}
 use Rattle.records.specs.Steps.{stored, next}
 use Rattle.records.proofs.copying.put as put
 use Rattle.records.proofs.copying.put.Symbol.{name as put-name}

@@ -6,12 +6,12 @@ use native.Mathlib.Omega.{arith}
 use lib.Dec.{T, nltb→le}
 use lib.Ieee.{Float, nan}
 use Rattle.arith.specs.Num.{isFinite}
-use Rattle.profile.specs.Refusals.{Test, refusal, axisTests, besideTests}
-use Rattle.profile.specs.Vertices.{count}
-use Rattle.profile.proofs.Each.{All, all-at, all-first, all-map, all-rest, cons, nil}
-use Rattle.profile.specs.Steps.{numbered}
-use Rattle.profile.proofs.Refusals.Ordered.{Passes}
-use Rattle.profile.proofs.Refusals.Passed.{NumberTaken, ShapeTaken, Taken, taken}
+use Rattle.section.specs.profile.Refusals.{Test, refusal, axisTests, besideTests}
+use Rattle.section.specs.profile.Vertices.{count}
+use Rattle.section.proofs.profile.Each.{All, all-at, all-first, all-map, all-rest, cons, nil}
+use Rattle.section.specs.profile.Steps.{numbered}
+use Rattle.section.proofs.profile.Refusals.Ordered.{Passes}
+use Rattle.section.proofs.profile.Refusals.Passed.{NumberTaken, ShapeTaken, Taken, taken}
 use Rattle.section.specs.Demand.{AtMost}
 use Rattle.section.proofs.Demand.Hits.{VerticesAtMost}
 use Rattle.section.proofs.Demand.AtMost.{limit-atMost, atMost-raise}

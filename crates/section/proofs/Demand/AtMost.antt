@@ -15,7 +15,7 @@ use Rattle.arith.specs.F64.{_≺_, _≼_, limit}
 use Rattle.arith.specs.Num.{abs, isFinite}
 use Rattle.arith.proofs.Laws.BoundedValue.{bounded-value, BoundedValue, value-up}
 use Rattle.arith.proofs.Laws.Sizes.{Given}
-use Rattle.roots.proofs.Rounding.Key.{side, unit, unit-pos}
+use Rattle.arith.proofs.roots.Rounding.Key.{side, unit, unit-pos}
 use Rattle.arith.proofs.Laws.Order.{finite-le}
 use Rattle.section.specs.Demand.{AtMost}
 

@@ -4,7 +4,7 @@ use Prim.Native.Nat.{ℕ}
 use lib.Dec.{T, ltb}
 use lib.Ieee.{Float, binary64}
 use Rattle.arith.specs.F64.{_⊕_, _⊖_}
-use Rattle.roots.specs.Roots.{hypot}
+use Rattle.arith.specs.roots.Roots.{hypot}
 use Rattle.arith.proofs.Laws.Bounded.{oneAbove}
 use Rattle.arith.proofs.Laws.Sizes.{Finite, finite-given, add-given, sub-given, hypot-given}
 use Rattle.section.specs.Demand.{AtMost}

@@ -8,15 +8,15 @@ use lib.Dec.{leb→le}
 use lib.Ieee.{Float, neg}
 use Rattle.arith.specs.F64.{_≺_, _≼_, 𝟘, ∞, e-9, e-12}
 use Rattle.arith.proofs.Laws.Sizes.{e-8-finite, Finite, finite-raise, half-finite, neg-finite, zero-finite}
-use Rattle.profile.proofs.Steps.{pick, upto-keeps}
-use Rattle.boxes.specs.Boxes.{boxDistance, boxGap, boxHolds, boxPenetration, boxWitness, edgeBox, middle, probe}
-use Rattle.points.specs.Overlap.{resultOf}
-use Rattle.boxes.specs.Boxes.{strictlyInsideAabb}
-use Rattle.points.specs.Points.{pointDistance}
-use Rattle.profile.specs.Vertices.{count, edgeAt, hit, on, vertexAt}
-use Rattle.profile.specs.declared.shapes.Aabb.{Aabb}
-use Rattle.profile.specs.declared.shapes.Vertex.{Vertex}
-use Rattle.profile.specs.declared.shapes.Witness.{Witness}
+use Rattle.section.proofs.profile.Steps.{pick, upto-keeps}
+use Rattle.section.specs.boxes.Boxes.{boxDistance, boxGap, boxHolds, boxPenetration, boxWitness, edgeBox, middle, probe}
+use Rattle.section.specs.points.Overlap.{resultOf}
+use Rattle.section.specs.boxes.Boxes.{strictlyInsideAabb}
+use Rattle.section.specs.points.Points.{pointDistance}
+use Rattle.section.specs.profile.Vertices.{count, edgeAt, hit, on, vertexAt}
+use Rattle.section.specs.declared.profile.shapes.Aabb.{Aabb}
+use Rattle.section.specs.declared.profile.shapes.Vertex.{Vertex}
+use Rattle.section.specs.declared.profile.shapes.Witness.{Witness}
 use Rattle.section.proofs.Demand.Bounds.{add-atMost, finite-atMost}
 use Rattle.section.proofs.Demand.Clip.{edgeBox-atMost}
 use Rattle.section.proofs.Demand.Hits.{BoxAtMost, corners-atMost, edgeAt-atMost, HitAtMost, nearest-beside, nearest-hit}

@@ -13,15 +13,15 @@ use lib.ListN.{length, length-append, length-take, take, List·getD-append}
 use lib.Seq.{getD-append-add, getD-take}
 use Rattle.arith.specs.F64.{_≺_, _≼_, 𝟘, e-9}
 use Rattle.arith.specs.Num.{isFinite}
-use Rattle.builders.specs.Kept.{polygonKept, polygonOwn, polygonTests, sectionKept, sectionOwn, sectionTests}
-use Rattle.builders.specs.Builder.{keep, keptPoints, lastOf, polygonOf, raised, samePoint, sectionOf}
-use Rattle.profile.specs.Refusals.{anyBelowAxis, axisTests, fewer, listTests, more, odd, refusal}
-use Rattle.profile.specs.Vertices.{count, vertex, vertexAt}
-use Rattle.profile.specs.declared.shapes.Vertex.{Vertex}
-use Rattle.profile.proofs.Refusals.Ordered.{Passes}
-use Rattle.profile.proofs.Refusals.Passed.{NumberTaken, ShapeTaken, Taken, passed, taken}
-use Rattle.profile.proofs.Each.{All, all-append, all-at, all-take, cons, nil}
-use Rattle.profile.proofs.Steps.{any-found, any-not, pick, upto-steps}
+use Rattle.section.specs.builders.Kept.{polygonKept, polygonOwn, polygonTests, sectionKept, sectionOwn, sectionTests}
+use Rattle.section.specs.builders.Builder.{keep, keptPoints, lastOf, polygonOf, raised, samePoint, sectionOf}
+use Rattle.section.specs.profile.Refusals.{anyBelowAxis, axisTests, fewer, listTests, more, odd, refusal}
+use Rattle.section.specs.profile.Vertices.{count, vertex, vertexAt}
+use Rattle.section.specs.declared.profile.shapes.Vertex.{Vertex}
+use Rattle.section.proofs.profile.Refusals.Ordered.{Passes}
+use Rattle.section.proofs.profile.Refusals.Passed.{NumberTaken, ShapeTaken, Taken, passed, taken}
+use Rattle.section.proofs.profile.Each.{All, all-append, all-at, all-take, cons, nil}
+use Rattle.section.proofs.profile.Steps.{any-found, any-not, pick, upto-steps}
 
 -- a radius that number 6 lets pass
 abbrev Above : Float → Type 0

@@ -11,15 +11,15 @@ use Rattle.arith.specs.Num.{abs}
 use Rattle.arith.proofs.Laws.Quotients.{abs-not-e-18, between, div-finite, InUnit, one-inUnit, zero-inUnit}
 use Rattle.arith.proofs.Laws.SizedOrder.{below-key, not-below-key}
 use Rattle.arith.proofs.Laws.Sizes.{Finite, neg-finite, zero-finite}
-use Rattle.profile.proofs.Steps.{pick}
-use Rattle.segments.specs.Clip.{clip, clipSide, outside, part}
-use Rattle.boxes.specs.Boxes.{corners, edgeBox}
-use Rattle.segments.specs.Segments.{segments}
-use Rattle.profile.specs.Vertices.{endAt, hit, on, vertexAt}
-use Rattle.profile.specs.declared.shapes.Aabb.{Aabb}
-use Rattle.segments.specs.declared.shapes.Clip.{Clip}
-use Rattle.profile.specs.declared.shapes.Edge.{Edge}
-use Rattle.profile.specs.declared.shapes.Vertex.{Vertex}
+use Rattle.section.proofs.profile.Steps.{pick}
+use Rattle.section.specs.segments.Clip.{clip, clipSide, outside, part}
+use Rattle.section.specs.boxes.Boxes.{corners, edgeBox}
+use Rattle.section.specs.segments.Segments.{segments}
+use Rattle.section.specs.profile.Vertices.{endAt, hit, on, vertexAt}
+use Rattle.section.specs.declared.profile.shapes.Aabb.{Aabb}
+use Rattle.section.specs.declared.segments.shapes.Clip.{Clip}
+use Rattle.section.specs.declared.profile.shapes.Edge.{Edge}
+use Rattle.section.specs.declared.profile.shapes.Vertex.{Vertex}
 use Rattle.section.proofs.Demand.Bounds.{sub-atMost}
 use Rattle.section.proofs.Demand.Hits.{BoxAtMost, corners-atMost, EdgeAtMost, endAt-atMost, HitAtMost, nearest-hit}
 use Rattle.section.proofs.Demand.Hits.{none-yet, on-atMost, vertex-raise, vertexAt-atMost, VertexAtMost}

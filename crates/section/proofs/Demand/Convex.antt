@@ -7,15 +7,15 @@ use lib.Ieee.{Float}
 use Rattle.arith.specs.F64.{_≼_, 𝟘, ∞, e-12}
 use Rattle.arith.specs.Num.{min, isFinite}
 use Rattle.arith.proofs.Laws.Sizes.{Finite, neg-finite, zero-finite}
-use Rattle.profile.proofs.Steps.{pick, upto-makes}
-use Rattle.convex.specs.Convex.{anyCross, convexDistance, convexGap, convexNear, convexPenetration}
-use Rattle.convex.specs.Convex.{signedDistanceConvex, convexRow, pointInConvex}
-use Rattle.points.specs.Points.{pointDistance}
-use Rattle.segments.specs.Segments.{closest, segments}
-use Rattle.profile.specs.Vertices.{count, edgeAt, endAt, hit, on, vertexAt}
-use Rattle.profile.specs.declared.shapes.CollisionHit.{CollisionHit}
-use Rattle.profile.specs.declared.shapes.Vertex.{Vertex}
-use Rattle.profile.specs.declared.shapes.Witness.{Witness}
+use Rattle.section.proofs.profile.Steps.{pick, upto-makes}
+use Rattle.section.specs.convex.Convex.{anyCross, convexDistance, convexGap, convexNear, convexPenetration}
+use Rattle.section.specs.convex.Convex.{signedDistanceConvex, convexRow, pointInConvex}
+use Rattle.section.specs.points.Points.{pointDistance}
+use Rattle.section.specs.segments.Segments.{closest, segments}
+use Rattle.section.specs.profile.Vertices.{count, edgeAt, endAt, hit, on, vertexAt}
+use Rattle.section.specs.declared.profile.shapes.CollisionHit.{CollisionHit}
+use Rattle.section.specs.declared.profile.shapes.Vertex.{Vertex}
+use Rattle.section.specs.declared.profile.shapes.Witness.{Witness}
 use Rattle.section.proofs.Demand.Boxes.{result-finite}
 use Rattle.section.proofs.Demand.Hits.{BestAtMost, edgeAt-atMost, endAt-atMost, found, HitAtMost, LeastAtMost, min-new}
 use Rattle.section.proofs.Demand.Hits.{nearest-beside, nearest-hit, no-distance, none-yet, some-distance}

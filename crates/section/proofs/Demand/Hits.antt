@@ -15,15 +15,15 @@ use Rattle.arith.specs.Num.{min}
 use Rattle.arith.proofs.Laws.OrderHeld.{none-above-inf}
 use Rattle.arith.proofs.Laws.Extended.{below-infinity, finite-not-nan, infinity-not-le}
 use Rattle.arith.proofs.Laws.Sizes.{Finite, finite-ends, finite-raise}
-use Rattle.profile.proofs.Steps.{pick, upto-keeps, upto-makes}
-use Rattle.boxes.specs.Boxes.{corners}
+use Rattle.section.proofs.profile.Steps.{pick, upto-keeps, upto-makes}
+use Rattle.section.specs.boxes.Boxes.{corners}
 use Rattle.section.specs.Demand.{AtMost}
-use Rattle.profile.specs.Vertices.{count, edgeAt, endAt, nearer, nearestOf, next, on, vertexAt}
-use Rattle.profile.specs.declared.shapes.Aabb.{Aabb}
-use Rattle.profile.specs.declared.shapes.CollisionHit.{CollisionHit}
-use Rattle.profile.specs.declared.shapes.Edge.{Edge}
-use Rattle.profile.specs.declared.shapes.Vertex.{Vertex}
-use Rattle.profile.specs.declared.shapes.Witness.{Witness}
+use Rattle.section.specs.profile.Vertices.{count, edgeAt, endAt, nearer, nearestOf, next, on, vertexAt}
+use Rattle.section.specs.declared.profile.shapes.Aabb.{Aabb}
+use Rattle.section.specs.declared.profile.shapes.CollisionHit.{CollisionHit}
+use Rattle.section.specs.declared.profile.shapes.Edge.{Edge}
+use Rattle.section.specs.declared.profile.shapes.Vertex.{Vertex}
+use Rattle.section.specs.declared.profile.shapes.Witness.{Witness}
 use Rattle.section.proofs.Demand.AtMost.{atMost-raise}
 
 pub record VertexAtMost (n : ℕ) (v : Vertex) : Type 0 where

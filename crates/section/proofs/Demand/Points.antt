@@ -11,15 +11,15 @@ use Rattle.arith.specs.Num.{abs, isFinite}
 use Rattle.arith.specs.declared.vector.Vec3.{Vec3}
 use Rattle.arith.proofs.Laws.Extended.{infinity-less}
 use Rattle.arith.proofs.Laws.Sizes.{Finite, neg-finite, zero-finite, finite-ends}
-use Rattle.profile.proofs.Steps.{any-found, any-not, pick, upto-keeps, upto-reaches}
+use Rattle.section.proofs.profile.Steps.{any-found, any-not, pick, upto-keeps, upto-reaches}
 use Rattle.section.specs.Demand.{AtMost, offAxis}
-use Rattle.points.specs.Points.{inSection, meridian, pointDistance, sphereDistance, edgeIsSurface, surfaceNear}
-use Rattle.points.specs.Points.{surfaceStep}
-use Rattle.segments.specs.Segments.{closest}
-use Rattle.profile.specs.Vertices.{count, edgeAt, endAt, hit, nearer, next, on, vertexAt}
-use Rattle.profile.specs.declared.shapes.CollisionHit.{CollisionHit}
-use Rattle.profile.specs.declared.shapes.Sphere.{Sphere}
-use Rattle.profile.specs.declared.shapes.Vertex.{Vertex}
+use Rattle.section.specs.points.Points.{inSection, meridian, pointDistance, sphereDistance, edgeIsSurface, surfaceNear}
+use Rattle.section.specs.points.Points.{surfaceStep}
+use Rattle.section.specs.segments.Segments.{closest}
+use Rattle.section.specs.profile.Vertices.{count, edgeAt, endAt, hit, nearer, next, on, vertexAt}
+use Rattle.section.specs.declared.profile.shapes.CollisionHit.{CollisionHit}
+use Rattle.section.specs.declared.profile.shapes.Sphere.{Sphere}
+use Rattle.section.specs.declared.profile.shapes.Vertex.{Vertex}
 use Rattle.section.proofs.Demand.Bounds.{finite-atMost, hypot-atMost, sub-atMost}
 use Rattle.section.proofs.Demand.Hits.{BestAtMost, edgeAt-atMost, found, HitAtMost, nearer-new, next-below, none-yet}
 use Rattle.section.proofs.Demand.Hits.{vertex-witness, VertexAtMost, VerticesAtMost, WitnessAtMost}

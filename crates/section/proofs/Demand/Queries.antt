@@ -7,26 +7,26 @@ use lib.Dec.{T, leb}
 use lib.Ieee.{Float}
 use Rattle.arith.specs.declared.vector.Vec3.{Vec3}
 use Rattle.section.specs.Answers.{boxAnswer, convexAnswer, pointAnswer, sphereAnswer}
-use Rattle.boxes.specs.Boxes.{boxDistance}
-use Rattle.convex.specs.Convex.{convexDistance}
+use Rattle.section.specs.boxes.Boxes.{boxDistance}
+use Rattle.section.specs.convex.Convex.{convexDistance}
 use Rattle.section.specs.Demand.{Bounded, BoundedOffAxis, AtMost, FewEdges}
-use Rattle.points.specs.Points.{meridian, pointDistance, sphereDistance}
-use Rattle.profile.specs.Refusals.{axisTests, boxNumbers, boxTests, boundsTests, convexTests, pointNumbers, pointTests, radiusTests}
-use Rattle.profile.specs.Refusals.{Test, refusal, sphereNumbers, sphereTests}
-use Rattle.profile.specs.Steps.{numbered}
-use Rattle.profile.specs.Replies.{OfValue}
-use Rattle.profile.proofs.Refusals.Passed.{NumberTaken, ShapeTaken, taken}
-use Rattle.profile.proofs.Replies.{of-reply}
-use Rattle.profile.specs.declared.shapes.Aabb.{Aabb}
-use Rattle.profile.specs.declared.shapes.CollisionHit.{CollisionHit}
-use Rattle.profile.specs.declared.shapes.Sphere.{Sphere}
-use Rattle.profile.specs.Vertices.{count}
+use Rattle.section.specs.points.Points.{meridian, pointDistance, sphereDistance}
+use Rattle.section.specs.profile.Refusals.{axisTests, boxNumbers, boxTests, boundsTests, convexTests, pointNumbers, pointTests, radiusTests}
+use Rattle.section.specs.profile.Refusals.{Test, refusal, sphereNumbers, sphereTests}
+use Rattle.section.specs.profile.Steps.{numbered}
+use Rattle.section.specs.profile.Replies.{OfValue}
+use Rattle.section.proofs.profile.Refusals.Passed.{NumberTaken, ShapeTaken, taken}
+use Rattle.section.proofs.profile.Replies.{of-reply}
+use Rattle.section.specs.declared.profile.shapes.Aabb.{Aabb}
+use Rattle.section.specs.declared.profile.shapes.CollisionHit.{CollisionHit}
+use Rattle.section.specs.declared.profile.shapes.Sphere.{Sphere}
+use Rattle.section.specs.profile.Vertices.{count}
 use Rattle.section.proofs.Demand.Accepted.{section-taken, taken-vertices}
 use Rattle.section.proofs.Demand.Bounds.{finite-atMost}
 use Rattle.section.proofs.Demand.Boxes.{box-atMost}
 use Rattle.section.proofs.Demand.Convex.{convex-atMost}
 use Rattle.section.proofs.Demand.Hits.{best-number, best-witness, BoxAtMost, HitAtMost, VerticesAtMost}
-use Rattle.profile.proofs.Each.{All, all-first, all-rest, cons, nil}
+use Rattle.section.proofs.profile.Each.{All, all-first, all-rest, cons, nil}
 use Rattle.section.proofs.Demand.Points.{meridian-atMost, offAxis-best, OffAxisAtMost, point-atMost, sphere-atMost}
 use Rattle.section.proofs.Demand.Points.{Vec3AtMost}
 use Rattle.section.proofs.Demand.AtMost.{atMost-raise}

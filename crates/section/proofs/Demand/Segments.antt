@@ -8,11 +8,11 @@ use Rattle.arith.specs.F64.{_⊕_, _⊖_, _⊗_, _⊘_, _≺_, _≼_, 𝟘, �
 use Rattle.arith.specs.Num.{abs}
 use Rattle.arith.proofs.Laws.Quotients.{abs-over-e-18, div-finite, inside, InUnit, one-inUnit, over-e-24, zero-inUnit}
 use Rattle.arith.proofs.Laws.Sizes.{add-finite, Finite, finite-raise, hypot-finite, mul-finite, neg-finite, sub-finite}
-use Rattle.profile.proofs.Steps.{pick}
-use Rattle.segments.specs.Segments.{along, apart, unitClamp, closest, closestPlaces, closestPoint, dot, minus, places, segments}
-use Rattle.segments.specs.declared.shapes.Places.{Places}
-use Rattle.profile.specs.declared.shapes.Edge.{Edge}
-use Rattle.profile.specs.declared.shapes.Vertex.{Vertex}
+use Rattle.section.proofs.profile.Steps.{pick}
+use Rattle.section.specs.segments.Segments.{along, apart, unitClamp, closest, closestPlaces, closestPoint, dot, minus, places, segments}
+use Rattle.section.specs.declared.segments.shapes.Places.{Places}
+use Rattle.section.specs.declared.profile.shapes.Edge.{Edge}
+use Rattle.section.specs.declared.profile.shapes.Vertex.{Vertex}
 use Rattle.section.proofs.Demand.Bounds.{add-atMost, finite-atMost}
 use Rattle.section.proofs.Demand.Bounds.{sub-atMost}
 use Rattle.section.proofs.Demand.Hits.{EdgeAtMost, HitAtMost, on-atMost, vertex-raise, VertexAtMost}

@@ -1,7 +1,7 @@
 -- `stores::write_listing` is safe: the listing lies within its array.
 use native.Mathlib.Omega.{arith}
 use lib.ListN.{length-take}
-use Rattle.store_listing.proofs.Listed.{front-within}
+use Rattle.listings.proofs.store_listing.Listed.{front-within}
 use borrow.Author.Needs.{needs}
 use Rattle.stores.proofs.write_listing.Statement.{statement}
 use Rattle.stores.proofs.write_listing.Tie as tie

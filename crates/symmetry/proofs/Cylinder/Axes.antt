@@ -6,9 +6,9 @@ use lib.Ieee.{Float, binary64}
 use Rattle.arith.specs.F64.{_⊖_, _⊘_, _≼_, 𝟘, 𝟙, e-8}
 use Rattle.arith.specs.Vector.{vec, subtract, scaleBy, norm}
 use Rattle.arith.specs.declared.vector.Vec3.{Vec3}
-use Rattle.bands.specs.Axis.{axis, axisDir}
-use Rattle.bands.specs.declared.shapes.Axis.the-variants.{Axial, AlongX, AlongY, Neither}
-use Rattle.bands.specs.declared.shapes.Cylinder.{Cylinder}
+use Rattle.walk.specs.bands.Axis.{axis, axisDir}
+use Rattle.walk.specs.declared.bands.shapes.Axis.the-variants.{Axial, AlongX, AlongY, Neither}
+use Rattle.walk.specs.declared.bands.shapes.Cylinder.{Cylinder}
 use Rattle.symmetry.specs.Alike.{same}
 use Rattle.symmetry.specs.Moved.{endsSwapped, mirrorX, mirrorY, mirroredX, mirroredY}
 use Rattle.symmetry.proofs.Floats.Like.{like-le, like-of}

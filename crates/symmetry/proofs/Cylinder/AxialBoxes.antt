@@ -6,11 +6,11 @@ use lib.Ieee.{binary64, fin, Float, inf, nan, neg}
 use lib.Ieee.Scale.{finite}
 use Rattle.arith.specs.F64.{_⊕_, _⊖_, _⊗_, 𝟘, ½}
 use Rattle.arith.specs.Num.{isFinite, max}
-use Rattle.roots.specs.Roots.{hypot}
+use Rattle.arith.specs.roots.Roots.{hypot}
 use Rattle.arith.proofs.Laws.Sizes.{Given, given-ends}
-use Rattle.bands.specs.Band.{axialBox, mean}
-use Rattle.bands.specs.declared.shapes.Cylinder.{Cylinder}
-use Rattle.bands.proofs.Limit.{CylinderInLimit}
+use Rattle.walk.specs.bands.Band.{axialBox, mean}
+use Rattle.walk.specs.declared.bands.shapes.Cylinder.{Cylinder}
+use Rattle.walk.proofs.bands.Limit.{CylinderInLimit}
 use Rattle.symmetry.specs.Alike.{Like, same}
 use Rattle.symmetry.specs.Moved.{endsSwapped, mirroredX, mirroredY}
 use Rattle.symmetry.proofs.Floats.Like.{add-comm-float, like-mul, like-of, like-trans}

@@ -7,12 +7,12 @@ use lib.Ieee.{binary64, Float}
 use lib.Ieee.Scale.{finite}
 use Rattle.arith.specs.F64.{_⊕_, _⊖_}
 use Rattle.arith.specs.Num.{max, min}
-use Rattle.roots.proofs.Rounding.Key.{finiteNumber}
-use Rattle.bands.specs.Band.{bandOf, mean, measuredAs, spanAt}
-use Rattle.bands.specs.declared.shapes.Axis.{Axis}
-use Rattle.bands.specs.declared.shapes.Axis.the-variants.{Axial, AlongX, AlongY, Neither}
-use Rattle.bands.specs.declared.shapes.Cylinder.{Cylinder}
-use Rattle.bands.proofs.Limit.{CylinderInLimit, bandOf-in-limit, measuredAs-in-limit}
+use Rattle.arith.proofs.roots.Rounding.Key.{finiteNumber}
+use Rattle.walk.specs.bands.Band.{bandOf, mean, measuredAs, spanAt}
+use Rattle.walk.specs.declared.bands.shapes.Axis.{Axis}
+use Rattle.walk.specs.declared.bands.shapes.Axis.the-variants.{Axial, AlongX, AlongY, Neither}
+use Rattle.walk.specs.declared.bands.shapes.Cylinder.{Cylinder}
+use Rattle.walk.proofs.bands.Limit.{CylinderInLimit, bandOf-in-limit, measuredAs-in-limit}
 use Rattle.symmetry.specs.Alike.{same}
 use Rattle.symmetry.specs.Moved.{endsSwapped, mirroredX, mirroredY}
 use Rattle.symmetry.proofs.Floats.Like.{like-add, like-of, like-sub, like-trans}

@@ -5,19 +5,19 @@ use mathlib.Core.List.{List}
 use mathlib.Core.Path.{ap, refl, subst, _≡_}
 use lib.Dec.{T}
 use lib.Ieee.{Float}
-use Rattle.profile.specs.declared.shapes.Aabb.{Aabb}
-use Rattle.boxes.specs.Boxes.{boxDistance}
-use Rattle.settings.specs.declared.shapes.Settings.{Settings}
-use Rattle.bands.specs.Axis.{axis}
-use Rattle.bands.specs.Band.{axialBox, bandOf, measuredAs}
-use Rattle.bands.specs.declared.shapes.Axis.{Axis}
-use Rattle.bands.specs.declared.shapes.Axis.the-variants.{Axial, AlongX, AlongY, Neither}
-use Rattle.bands.specs.declared.shapes.Cylinder.{Cylinder}
-use Rattle.bands.proofs.Limit.{CylinderInLimit}
+use Rattle.section.specs.declared.profile.shapes.Aabb.{Aabb}
+use Rattle.section.specs.boxes.Boxes.{boxDistance}
+use Rattle.walk.specs.declared.settings.shapes.Settings.{Settings}
+use Rattle.walk.specs.bands.Axis.{axis}
+use Rattle.walk.specs.bands.Band.{axialBox, bandOf, measuredAs}
+use Rattle.walk.specs.declared.bands.shapes.Axis.{Axis}
+use Rattle.walk.specs.declared.bands.shapes.Axis.the-variants.{Axial, AlongX, AlongY, Neither}
+use Rattle.walk.specs.declared.bands.shapes.Cylinder.{Cylinder}
+use Rattle.walk.proofs.bands.Limit.{CylinderInLimit}
 use Rattle.walk.specs.Walk.{bandDistance, oneBox}
 use Rattle.walk.specs.declared.shapes.CountedHit.{CountedHit}
-use Rattle.cylinders.specs.Cylinders.{cylinderDistance}
-use Rattle.cylinders.specs.Promised.{acrossSpindle}
+use Rattle.walk.specs.cylinders.Cylinders.{cylinderDistance}
+use Rattle.walk.specs.cylinders.Promised.{acrossSpindle}
 use Rattle.symmetry.specs.Alike.{LikeCounted}
 use Rattle.symmetry.specs.Moved.{endsSwapped, mirroredX, mirroredY}
 use Rattle.symmetry.proofs.Section.Boxes.{box-distance-like, EqualBox}

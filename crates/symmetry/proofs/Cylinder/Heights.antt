@@ -8,9 +8,9 @@ use lib.Dec.{T}
 use lib.Ieee.{add, binary64, fin, fits, Float, inf, isNan, nan, neg, sub}
 use lib.Ieee.Fits.{and-i, and-r}
 use Rattle.arith.specs.F64.{_⊕_, _⊖_, 𝟘}
-use Rattle.roots.proofs.Rounding.Key.{finite-of, finiteNumber, key, key-is, magnitude, mid, negative, number, side}
-use Rattle.roots.proofs.Rounding.KeyOrder.{lt→key}
-use Rattle.roots.proofs.Rounding.Sum.{add-number, sub-number}
+use Rattle.arith.proofs.roots.Rounding.Key.{finite-of, finiteNumber, key, key-is, magnitude, mid, negative, number, side}
+use Rattle.arith.proofs.roots.Rounding.KeyOrder.{lt→key}
+use Rattle.arith.proofs.roots.Rounding.Sum.{add-number, sub-number}
 use Rattle.arith.proofs.Laws.Exact.{add-ge, sub-le}
 use Rattle.arith.proofs.Laws.OrderHeld.{not-less-minus-inf, not-less-nan}
 use Rattle.arith.proofs.Laws.Sizes.{zero-number}

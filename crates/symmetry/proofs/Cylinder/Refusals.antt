@@ -7,11 +7,11 @@ use mathlib.Core.Path.{_≡_, ap, refl, sym, _∙_}
 use lib.Ieee.{Float, fin, inf, nan, neg}
 use Rattle.arith.specs.F64.{limit}
 use Rattle.arith.specs.Num.{isFinite}
-use Rattle.profile.specs.Refusals.{Test, anyOf, notFinite, overLimit, pointNumbers, refusal}
-use Rattle.profile.proofs.Refusals.AnyOf.{any-of-append}
-use Rattle.bands.specs.Axis.{axis}
-use Rattle.bands.specs.declared.shapes.Cylinder.{Cylinder}
-use Rattle.cylinders.specs.Cylinders.{cylinderNumbers, cylinderTests}
+use Rattle.section.specs.profile.Refusals.{Test, anyOf, notFinite, overLimit, pointNumbers, refusal}
+use Rattle.section.proofs.profile.Refusals.AnyOf.{any-of-append}
+use Rattle.walk.specs.bands.Axis.{axis}
+use Rattle.walk.specs.declared.bands.shapes.Cylinder.{Cylinder}
+use Rattle.walk.specs.cylinders.Cylinders.{cylinderNumbers, cylinderTests}
 use Rattle.symmetry.specs.Alike.{same}
 use Rattle.symmetry.specs.Moved.{endsSwapped, mirroredX, mirroredY}
 use Rattle.symmetry.proofs.Floats.Like.{like-lt}

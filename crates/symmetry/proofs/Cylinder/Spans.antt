@@ -8,15 +8,15 @@ use lib.Dec.{T}
 use lib.Ieee.{binary64, fin, Float, inf, isNan, nan, neg}
 use Rattle.arith.specs.F64.{_≺_, _≼_, 𝟘}
 use Rattle.arith.specs.Num.{max as greater}
-use Rattle.roots.specs.Roots.{hypot, ticks}
-use Rattle.roots.proofs.Rounding.Key.{negative, number}
+use Rattle.arith.specs.roots.Roots.{hypot, ticks}
+use Rattle.arith.proofs.roots.Rounding.Key.{negative, number}
 use Rattle.arith.proofs.Laws.Exact.{key-unique}
 use Rattle.arith.proofs.Laws.Order.{max-key}
 use Rattle.arith.proofs.Laws.Hypot.{hypot-plus, inf-number}
 use Rattle.arith.proofs.Laws.RootKey.{root-number}
 use lib.Ieee.Scale.{finite}
-use Rattle.bands.specs.Band.{radiusSpan, span, closestToZero}
-use Rattle.bands.specs.declared.shapes.Span.{Span}
+use Rattle.walk.specs.bands.Band.{radiusSpan, span, closestToZero}
+use Rattle.walk.specs.declared.bands.shapes.Span.{Span}
 use Rattle.symmetry.specs.Alike.{Like, same, zeros}
 use Rattle.symmetry.proofs.Floats.Written.{Equal, equal-cond, equal-hypot, equal-lt, one}
 use Rattle.symmetry.proofs.Floats.Like.{like-cond, like-lt, like-trans}

@@ -12,7 +12,7 @@ use lib.Ieee.Fits.{down-pos, up-pos}
 use lib.Ieee.Scale.{round-same}
 use lib.IntN.{pos, ℤ}
 use lib.Pow.{pow-pos}
-use Rattle.roots.specs.Roots.{hypot}
+use Rattle.arith.specs.roots.Roots.{hypot}
 use Rattle.arith.proofs.Laws.Hypot.{hypot-comm}
 use Rattle.symmetry.specs.Alike.{Like, same, zeros}
 

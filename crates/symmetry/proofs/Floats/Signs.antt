@@ -12,7 +12,7 @@ use lib.Ieee.{emax, prec, unlike, up, ofBits}
 use lib.Ieee.Bits.{is-true}
 use lib.Ieee.Fits.{down-pos, eq→eqb, up-pos}
 use lib.IntN.{pos, ℤ}
-use Rattle.roots.specs.Roots.{hypot}
+use Rattle.arith.specs.roots.Roots.{hypot}
 use Rattle.arith.proofs.Laws.Hypot.{hypot-comm, hypot-neg}
 use Rattle.arith.specs.F64.{_≺_, 𝟘}
 use Rattle.arith.specs.Num.{abs}

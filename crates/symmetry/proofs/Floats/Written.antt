@@ -11,8 +11,8 @@ use lib.Ieee.Fits.{down-pos, eq→eqb}
 use lib.Ieee.Nearest.{div-same}
 use lib.Ieee.Scale.{round-same}
 use lib.IntN.{ℤ}
-use Rattle.roots.specs.Roots.{hypot, root, ticks}
-use Rattle.roots.proofs.Rounding.RoundKey.{times-sub}
+use Rattle.arith.specs.roots.Roots.{hypot, root, ticks}
+use Rattle.arith.proofs.roots.Rounding.RoundKey.{times-sub}
 use Rattle.arith.proofs.Laws.Hypot.{hypot-comm}
 use Rattle.symmetry.specs.Alike.{Like, same}
 use Rattle.symmetry.proofs.Floats.Like.{add-comm-float, like-add, like-hypot, like-le, like-lt, like-neg, like-of}

@@ -7,17 +7,17 @@ use mathlib.Core.Path.{ap, refl, _≡_}
 use lib.Ieee.{binary64, Float, neg}
 use Rattle.arith.specs.F64.{_⊘_, _≺_, _≼_, 𝟘, 𝟙, ½, e-9, e-12, e-15, e-18}
 use Rattle.arith.specs.Num.{abs}
-use Rattle.profile.specs.Vertices.{any, count, edgeAt, endAt, next, vertexAt}
-use Rattle.profile.specs.declared.shapes.Aabb.{Aabb}
-use Rattle.profile.specs.declared.shapes.Vertex.{Vertex}
-use Rattle.profile.specs.declared.shapes.Edge.{Edge}
-use Rattle.profile.specs.declared.shapes.Witness.{Witness}
-use Rattle.segments.specs.Clip.{clip, clipSide, part}
-use Rattle.segments.specs.Segments.{minus}
-use Rattle.segments.specs.declared.shapes.Clip.{Clip}
-use Rattle.points.specs.Overlap.{resultOf}
-use Rattle.boxes.specs.Boxes.{boxDistance, boxGap, boxHolds, boxPenetration, boxWitness, corners, edgeBox, middle, probe}
-use Rattle.boxes.specs.Boxes.{segmentThroughInterior, strictlyInsideAabb}
+use Rattle.section.specs.profile.Vertices.{any, count, edgeAt, endAt, next, vertexAt}
+use Rattle.section.specs.declared.profile.shapes.Aabb.{Aabb}
+use Rattle.section.specs.declared.profile.shapes.Vertex.{Vertex}
+use Rattle.section.specs.declared.profile.shapes.Edge.{Edge}
+use Rattle.section.specs.declared.profile.shapes.Witness.{Witness}
+use Rattle.section.specs.segments.Clip.{clip, clipSide, part}
+use Rattle.section.specs.segments.Segments.{minus}
+use Rattle.section.specs.declared.segments.shapes.Clip.{Clip}
+use Rattle.section.specs.points.Overlap.{resultOf}
+use Rattle.section.specs.boxes.Boxes.{boxDistance, boxGap, boxHolds, boxPenetration, boxWitness, corners, edgeBox, middle, probe}
+use Rattle.section.specs.boxes.Boxes.{segmentThroughInterior, strictlyInsideAabb}
 use Rattle.symmetry.specs.Alike.{Like, LikeHit, LikeWitness, same}
 use Rattle.symmetry.proofs.Floats.Like.{like-div, like-le, like-lt, like-mul}
 use Rattle.symmetry.proofs.Section.Points.{point-like}

@@ -6,10 +6,10 @@ use mathlib.Core.Path.{ap, refl, _∙_, _≡_}
 use lib.Ieee.{binary64, Float, unlike}
 use Rattle.arith.specs.F64.{_⊕_, _⊖_, _≼_, e-8, e-9, e-12, e-18}
 use Rattle.arith.specs.Num.{abs, isFinite, max, min}
-use Rattle.profile.specs.Vertices.{count, edgeAt, endAt, vertexAt}
-use Rattle.profile.specs.declared.shapes.Vertex.{Vertex}
-use Rattle.points.specs.Points.{crosses, edgeIsSurface, insideAxisEdge, inSection, pointDistance, pointInside}
-use Rattle.points.specs.Points.{surfaceNear, surfaceStep}
+use Rattle.section.specs.profile.Vertices.{count, edgeAt, endAt, vertexAt}
+use Rattle.section.specs.declared.profile.shapes.Vertex.{Vertex}
+use Rattle.section.specs.points.Points.{crosses, edgeIsSurface, insideAxisEdge, inSection, pointDistance, pointInside}
+use Rattle.section.specs.points.Points.{surfaceNear, surfaceStep}
 use Rattle.symmetry.specs.Alike.{Like, LikeHit, same, zeros}
 use Rattle.symmetry.proofs.Floats.Like.{like-add, like-div, like-le, like-mul, like-neg}
 use Rattle.symmetry.proofs.Section.Segments.{closest-like}

@@ -6,11 +6,11 @@ use lib.Ieee.{binary64, fin, Float, neg, ofBits}
 use lib.IntN.{ℤ}
 use Rattle.arith.specs.F64.{_⊕_, _⊖_, _⊗_, _⊘_, _≺_, _≼_, 𝟘, 𝟙, e-18, e-24}
 use Rattle.arith.specs.Num.{abs}
-use Rattle.profile.specs.declared.shapes.Vertex.{Vertex}
-use Rattle.profile.specs.declared.shapes.Edge.{Edge}
-use Rattle.segments.specs.Segments.{along, apart, closest, closestPlaces, closestPoint, dot, minus, places, segments}
-use Rattle.segments.specs.Segments.{unitClamp}
-use Rattle.segments.specs.declared.shapes.Places.{Places}
+use Rattle.section.specs.declared.profile.shapes.Vertex.{Vertex}
+use Rattle.section.specs.declared.profile.shapes.Edge.{Edge}
+use Rattle.section.specs.segments.Segments.{along, apart, closest, closestPlaces, closestPoint, dot, minus, places, segments}
+use Rattle.section.specs.segments.Segments.{unitClamp}
+use Rattle.section.specs.declared.segments.shapes.Places.{Places}
 use Rattle.symmetry.specs.Alike.{Like, LikeHit, same, zeros}
 use Rattle.symmetry.proofs.Floats.Like.{like-add, like-div, like-hypot, like-le, like-lt, like-mul, like-neg, like-of}
 use Rattle.symmetry.proofs.Floats.Like.{like-sub, not-under-zero, zero-under}

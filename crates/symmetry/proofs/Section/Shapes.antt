@@ -7,10 +7,10 @@ use mathlib.Core.Path.{ap, refl, subst, _∙_, _≡_}
 use lib.Dec.{T}
 use lib.Ieee.{Float, nan}
 use lib.ListN.{getD}
-use Rattle.profile.specs.Vertices.{any, nearer, nearestOf, on, upto}
-use Rattle.profile.specs.declared.shapes.CollisionHit.{CollisionHit}
-use Rattle.profile.specs.declared.shapes.Vertex.{Vertex}
-use Rattle.profile.specs.declared.shapes.Witness.{Witness}
+use Rattle.section.specs.profile.Vertices.{any, nearer, nearestOf, on, upto}
+use Rattle.section.specs.declared.profile.shapes.CollisionHit.{CollisionHit}
+use Rattle.section.specs.declared.profile.shapes.Vertex.{Vertex}
+use Rattle.section.specs.declared.profile.shapes.Witness.{Witness}
 use Rattle.symmetry.specs.Alike.{Like, LikeHit, LikeWitness, same}
 use Rattle.symmetry.proofs.Floats.Like.{like-lt}
 use Rattle.symmetry.proofs.Floats.Written.{Equal, one}

@@ -8,16 +8,16 @@ use lib.Dec.{leb→le, T}
 use lib.Ieee.{binary64, Float, nan}
 use lib.ListN.{getD, length}
 use Rattle.arith.specs.F64.{_≺_}
-use Rattle.roots.proofs.Rounding.KeyOrder.{nlt→key}
-use Rattle.profile.specs.Refusals.{axisTests, boundsTests, boxNumbers, boxTests, refusal}
-use Rattle.profile.specs.Replies.{OfValue}
-use Rattle.profile.specs.declared.shapes.Aabb.{Aabb}
-use Rattle.profile.specs.declared.shapes.CollisionHit.{CollisionHit}
-use Rattle.profile.proofs.Each.{All, all-first, all-rest, cons, nil}
-use Rattle.profile.proofs.Refusals.Ordered.{Passes}
-use Rattle.profile.proofs.Refusals.Passed.{taken}
-use Rattle.profile.proofs.Replies.{of-reply}
-use Rattle.boxes.specs.Boxes.{boxDistance}
+use Rattle.arith.proofs.roots.Rounding.KeyOrder.{nlt→key}
+use Rattle.section.specs.profile.Refusals.{axisTests, boundsTests, boxNumbers, boxTests, refusal}
+use Rattle.section.specs.profile.Replies.{OfValue}
+use Rattle.section.specs.declared.profile.shapes.Aabb.{Aabb}
+use Rattle.section.specs.declared.profile.shapes.CollisionHit.{CollisionHit}
+use Rattle.section.proofs.profile.Each.{All, all-first, all-rest, cons, nil}
+use Rattle.section.proofs.profile.Refusals.Ordered.{Passes}
+use Rattle.section.proofs.profile.Refusals.Passed.{taken}
+use Rattle.section.proofs.profile.Replies.{of-reply}
+use Rattle.section.specs.boxes.Boxes.{boxDistance}
 use Rattle.section.specs.Answers.{boxAnswer}
 use Rattle.truth.specs.Exact.{units}
 use Rattle.truth.specs.Points.{full, Held, metre, Reach, WithinReach}

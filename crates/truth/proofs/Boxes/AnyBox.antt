@@ -9,13 +9,13 @@ use native.Mathlib.Nat.{le-of-eq, le-of-lt, le-refl, le-trans, mul-le-mul, mul-l
 use native.Mathlib.Omega.{arith}
 use lib.Dec.{leb→le}
 use lib.Ieee.{binary64, prec}
-use Rattle.roots.proofs.Numbers.{decide}
+use Rattle.arith.proofs.roots.Numbers.{decide}
 use Rattle.arith.proofs.Laws.Sizes.{K, M}
-use Rattle.profile.specs.Vertices.{vertexAt}
-use Rattle.profile.specs.declared.shapes.Aabb.{Aabb}
-use Rattle.profile.specs.declared.shapes.Edge.{Edge}
-use Rattle.profile.specs.declared.shapes.Vertex.{Vertex}
-use Rattle.boxes.specs.Boxes.{corners, edgeBox}
+use Rattle.section.specs.profile.Vertices.{vertexAt}
+use Rattle.section.specs.declared.profile.shapes.Aabb.{Aabb}
+use Rattle.section.specs.declared.profile.shapes.Edge.{Edge}
+use Rattle.section.specs.declared.profile.shapes.Vertex.{Vertex}
+use Rattle.section.specs.boxes.Boxes.{corners, edgeBox}
 use Rattle.arith.specs.Whole.{apart}
 use Rattle.truth.specs.Exact.{sqd}
 use Rattle.truth.proofs.Points.Closest.{Within}

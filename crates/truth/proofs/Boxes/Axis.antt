@@ -10,15 +10,15 @@ use native.Mathlib.Omega.{arith}
 use lib.Dec.{not-T, T}
 use lib.Ieee.{binary64, Float, prec}
 use lib.Pow.{pow-pos}
-use Rattle.roots.proofs.Numbers.{decide}
-use Rattle.roots.proofs.Rounding.Key.{unit, unit-pos}
-use Rattle.roots.proofs.Rounding.KeyOrder.{le→key}
+use Rattle.arith.proofs.roots.Numbers.{decide}
+use Rattle.arith.proofs.roots.Rounding.Key.{unit, unit-pos}
+use Rattle.arith.proofs.roots.Rounding.KeyOrder.{le→key}
 use Rattle.arith.specs.F64.{_⊕_, _⊖_, _⊗_, _⊘_, _≺_, _≼_, 𝟘, e-18, e-24}
 use Rattle.arith.specs.Num.{abs}
 use Rattle.arith.proofs.Laws.Bounded.{bounded-up}
 use Rattle.arith.proofs.Laws.Quotients.{InUnit}
 use Rattle.arith.proofs.Laws.Sizes.{add-finite, e-24-finite, Finite, finite-number, finite-raise, K, M, mul-finite, sub-finite}
-use Rattle.segments.specs.Segments.{unitClamp}
+use Rattle.section.specs.segments.Segments.{unitClamp}
 use Rattle.arith.specs.Whole.{apart}
 use Rattle.truth.proofs.Points.Coordinate.{power, sized}
 use Rattle.arith.proofs.Laws.RoundingError.{Close}

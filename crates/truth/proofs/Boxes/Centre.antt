@@ -10,24 +10,24 @@ use native.Mathlib.Nat.{le-of-eq, le-of-mul-le-mul-left, le-trans, lt-of-le-of-l
 use native.Mathlib.Omega.{arith}
 use lib.Dec.{leb→le, lt→ltb, T, T-not}
 use lib.Ieee.{binary64, Float, neg, ofBits, prec}
-use Rattle.roots.proofs.Numbers.{decide}
-use Rattle.roots.proofs.Rounding.Key.{finite-of, key, magnitude, mid, number-of, unit}
-use Rattle.roots.proofs.Rounding.KeyOrder.{lt-key}
-use Rattle.roots.proofs.Rounding.Sum.{neg-key}
+use Rattle.arith.proofs.roots.Numbers.{decide}
+use Rattle.arith.proofs.roots.Rounding.Key.{finite-of, key, magnitude, mid, number-of, unit}
+use Rattle.arith.proofs.roots.Rounding.KeyOrder.{lt-key}
+use Rattle.arith.proofs.roots.Rounding.Sum.{neg-key}
 use Rattle.arith.specs.F64.{_⊕_, _⊗_, _≺_, 𝟘, ½, e-9}
 use Rattle.arith.specs.Whole.{apart}
 use Rattle.arith.proofs.Laws.Bounded.{between-bounded, bounded-within, mid-lt, overflow}
 use Rattle.arith.proofs.Laws.Extended.{neg-number}
 use Rattle.arith.proofs.Laws.Middle.{Between, half, half-is, IsHalf, middle}
 use Rattle.arith.proofs.Laws.Sizes.{e-9-finite, finite-number, K, M, Number, zero-number}
-use Rattle.profile.proofs.Steps.{pick}
-use Rattle.profile.specs.Vertices.{count, hit, vertexAt}
-use Rattle.profile.specs.declared.shapes.Aabb.{Aabb}
-use Rattle.profile.specs.declared.shapes.Vertex.{Vertex}
-use Rattle.points.specs.Overlap.{resultOf}
-use Rattle.points.specs.Points.{pointDistance, pointInside}
-use Rattle.points.proofs.Numbers.{point-number}
-use Rattle.boxes.specs.Boxes.{boxDistance, boxGap, boxPenetration, probe}
+use Rattle.section.proofs.profile.Steps.{pick}
+use Rattle.section.specs.profile.Vertices.{count, hit, vertexAt}
+use Rattle.section.specs.declared.profile.shapes.Aabb.{Aabb}
+use Rattle.section.specs.declared.profile.shapes.Vertex.{Vertex}
+use Rattle.section.specs.points.Overlap.{resultOf}
+use Rattle.section.specs.points.Points.{pointDistance, pointInside}
+use Rattle.section.proofs.points.Numbers.{point-number}
+use Rattle.section.specs.boxes.Boxes.{boxDistance, boxGap, boxPenetration, probe}
 use Rattle.section.specs.Demand.{offAxis}
 use Rattle.truth.specs.Exact.{away², NotOver, place, size, sqd, units}
 use Rattle.truth.specs.Solid.{plain, vertexInside}

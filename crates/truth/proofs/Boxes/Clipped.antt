@@ -8,13 +8,13 @@ use native.Mathlib.Omega.{arith}
 use lib.Dec.{leb→le, T}
 use lib.Pow.{pow-pos}
 use lib.Ieee.{binary64, div, fits, Float, Format, isNan, low, lt, neg, ofBits, prec, sub}
-use Rattle.roots.proofs.Rounding.Fraction.{rounded, rounded-fix, rounded-zero}
-use Rattle.roots.proofs.Rounding.Key.{finiteNumber, key, magnitude, mid, number, prec-pos, unit}
-use Rattle.roots.proofs.Rounding.KeyOrder.{lt→key, nlt→key}
-use Rattle.roots.proofs.Rounding.Product.{negativePart, positivePart}
-use Rattle.roots.proofs.Rounding.Quotient.{div-key, div-key-neg, div-number, div-number-neg}
-use Rattle.roots.proofs.Rounding.RoundKey.{roundKey, roundKey-mono, roundKey-side}
-use Rattle.roots.proofs.Rounding.Sum.{neg-key, sub-key}
+use Rattle.arith.proofs.roots.Rounding.Fraction.{rounded, rounded-fix, rounded-zero}
+use Rattle.arith.proofs.roots.Rounding.Key.{finiteNumber, key, magnitude, mid, number, prec-pos, unit}
+use Rattle.arith.proofs.roots.Rounding.KeyOrder.{lt→key, nlt→key}
+use Rattle.arith.proofs.roots.Rounding.Product.{negativePart, positivePart}
+use Rattle.arith.proofs.roots.Rounding.Quotient.{div-key, div-key-neg, div-number, div-number-neg}
+use Rattle.arith.proofs.roots.Rounding.RoundKey.{roundKey, roundKey-mono, roundKey-side}
+use Rattle.arith.proofs.roots.Rounding.Sum.{neg-key, sub-key}
 use Rattle.arith.specs.F64.{_⊖_, _⊘_, _≺_, _≼_, 𝟘, 𝟙, e-15, e-18}
 use Rattle.arith.specs.Num.{abs}
 use Rattle.arith.proofs.Laws.Bounded.{one-lt}
@@ -22,11 +22,11 @@ use Rattle.arith.proofs.Laws.Monotone.{sub-key-mono}
 use Rattle.arith.proofs.Laws.Quotients.{abs-not-e-18, above, AwayFrom0, below}
 use Rattle.arith.proofs.Laws.Sizes.{Finite, finite-number, K, M, neg-finite, one-finite, sub-finite, zero-finite, zero-key}
 use Rattle.arith.proofs.Laws.Sizes.{zero-number}
-use Rattle.profile.proofs.Steps.{pick}
-use Rattle.profile.specs.declared.shapes.Aabb.{Aabb}
-use Rattle.profile.specs.declared.shapes.Vertex.{Vertex}
-use Rattle.segments.specs.Clip.{clip, clipSide, part}
-use Rattle.segments.specs.declared.shapes.Clip.{Clip}
+use Rattle.section.proofs.profile.Steps.{pick}
+use Rattle.section.specs.declared.profile.shapes.Aabb.{Aabb}
+use Rattle.section.specs.declared.profile.shapes.Vertex.{Vertex}
+use Rattle.section.specs.segments.Clip.{clip, clipSide, part}
+use Rattle.section.specs.declared.segments.shapes.Clip.{Clip}
 use Rattle.truth.proofs.Boxes.Floats.{U}
 use Rattle.truth.proofs.Boxes.Taken.{one-key}
 

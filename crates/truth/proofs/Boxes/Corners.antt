@@ -9,18 +9,18 @@ use native.Mathlib.Omega.{arith}
 use lib.Dec.{leb→le, T}
 use lib.Ieee.{binary64, Float, neg, ofBits, prec}
 use lib.Pow.{pow-pos}
-use Rattle.roots.specs.Roots.{hypot}
-use Rattle.roots.proofs.Numbers.{decide}
-use Rattle.roots.proofs.Rounding.Key.{key, magnitude, mid, unit, unit-pos}
-use Rattle.roots.proofs.Rounding.Sum.{neg-key}
+use Rattle.arith.specs.roots.Roots.{hypot}
+use Rattle.arith.proofs.roots.Numbers.{decide}
+use Rattle.arith.proofs.roots.Rounding.Key.{key, magnitude, mid, unit, unit-pos}
+use Rattle.arith.proofs.roots.Rounding.Sum.{neg-key}
 use Rattle.arith.specs.F64.{_⊕_, _⊖_, _⊗_, _⊘_, _≼_, 𝟘, 𝟙, e-24}
 use Rattle.arith.proofs.Laws.Bounded.{Bounded, bounded-up}
 use Rattle.arith.proofs.Laws.Order.{nle→key}
 use Rattle.arith.proofs.Laws.Quotients.{div-finite, InUnit, one-inUnit, over-e-24, zero-inUnit}
 use Rattle.arith.proofs.Laws.Sizes.{add-finite, e-24-finite, Finite, finite-number, finite-raise, K, M, mul-finite, neg-finite}
 use Rattle.arith.proofs.Laws.Sizes.{sub-finite, zero-key}
-use Rattle.profile.specs.declared.shapes.Vertex.{Vertex}
-use Rattle.segments.specs.Segments.{along, dot, minus, places, unitClamp}
+use Rattle.section.specs.declared.profile.shapes.Vertex.{Vertex}
+use Rattle.section.specs.segments.Segments.{along, dot, minus, places, unitClamp}
 use Rattle.arith.specs.Whole.{apart}
 use Rattle.truth.proofs.Points.Closest.{Within}
 use Rattle.truth.proofs.Points.Foot.{Loss}
@@ -35,7 +35,7 @@ use Rattle.truth.proofs.Boxes.Floats.{difference-of, exact-difference, 
 use Rattle.truth.proofs.Boxes.Nearest.{Nearest, nearest}
 use Rattle.truth.proofs.Boxes.Points.{gap, gap-size, leg, point, Point}
 use Rattle.truth.proofs.Boxes.Relative.{Dotted, dotted, dotted-less, Reach, Span}
-use Rattle.segments.specs.declared.shapes.Places.{Places}
+use Rattle.section.specs.declared.segments.shapes.Places.{Places}
 use Rattle.truth.proofs.Boxes.Signed.{Near, wider}
 use Rattle.truth.proofs.Boxes.Taken.{one-key}
 

@@ -8,23 +8,23 @@ use native.Mathlib.Nat.{le-of-eq, le-of-lt, le-refl, le-trans, mul-le-mul, mul-l
 use native.Mathlib.Omega.{arith}
 use lib.Dec.{leb→le, T, T-not}
 use lib.Ieee.{binary64, Float, prec}
-use Rattle.roots.proofs.Rounding.Key.{number}
-use Rattle.roots.proofs.Rounding.KeyOrder.{lt→key, nlt→key}
+use Rattle.arith.proofs.roots.Rounding.Key.{number}
+use Rattle.arith.proofs.roots.Rounding.KeyOrder.{lt→key, nlt→key}
 use Rattle.arith.specs.F64.{_≺_, _≼_, 𝟘, ∞, e-24}
 use Rattle.arith.proofs.Laws.Bounded.{Bounded, bounded-up}
 use Rattle.arith.proofs.Laws.BoundedValue.{bounded→value}
 use Rattle.arith.proofs.Laws.Hypot.{inf-number}
 use Rattle.arith.proofs.Laws.Sizes.{Finite, finite-number, K, M, zero-key}
-use Rattle.profile.proofs.Steps.{pick, upto-steps}
-use Rattle.profile.specs.Vertices.{endAt, hit, nearer, nearestOf, on, vertexAt}
-use Rattle.profile.specs.declared.shapes.Aabb.{Aabb}
-use Rattle.profile.specs.declared.shapes.CollisionHit.{CollisionHit}
-use Rattle.profile.specs.declared.shapes.Edge.{Edge}
-use Rattle.profile.specs.declared.shapes.Vertex.{Vertex}
-use Rattle.segments.specs.Clip.{clip}
-use Rattle.segments.specs.Segments.{dot, minus, segments}
-use Rattle.segments.specs.declared.shapes.Clip.{Clip}
-use Rattle.boxes.specs.Boxes.{corners, edgeBox}
+use Rattle.section.proofs.profile.Steps.{pick, upto-steps}
+use Rattle.section.specs.profile.Vertices.{endAt, hit, nearer, nearestOf, on, vertexAt}
+use Rattle.section.specs.declared.profile.shapes.Aabb.{Aabb}
+use Rattle.section.specs.declared.profile.shapes.CollisionHit.{CollisionHit}
+use Rattle.section.specs.declared.profile.shapes.Edge.{Edge}
+use Rattle.section.specs.declared.profile.shapes.Vertex.{Vertex}
+use Rattle.section.specs.segments.Clip.{clip}
+use Rattle.section.specs.segments.Segments.{dot, minus, segments}
+use Rattle.section.specs.declared.segments.shapes.Clip.{Clip}
+use Rattle.section.specs.boxes.Boxes.{corners, edgeBox}
 use Rattle.section.specs.Demand.{AtMost}
 use Rattle.section.proofs.Demand.AtMost.{value-atMost}
 use Rattle.section.proofs.Demand.Clip.{edgeBox-atMost}

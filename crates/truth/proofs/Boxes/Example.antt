@@ -6,17 +6,17 @@ use mathlib.Core.Path.{_≡_, ap, refl, subst}
 use native.Mathlib.Omega.{arith}
 use lib.Dec.{leb→le}
 use lib.Ieee.{add, binary64, div, fits, Float, le, lt, mul, neg, ofBits, sub}
-use Rattle.roots.proofs.Rounding.Key.{key, magnitude, mid, unit}
-use Rattle.roots.specs.Roots.{hypot, sqrt}
+use Rattle.arith.proofs.roots.Rounding.Key.{key, magnitude, mid, unit}
+use Rattle.arith.specs.roots.Roots.{hypot, sqrt}
 use Rattle.arith.specs.Num.{isFinite}
-use Rattle.profile.specs.Vertices.{any, upto}
-use Rattle.profile.specs.declared.shapes.Aabb.{Aabb}
-use Rattle.segments.specs.Clip.{clip, clipSide}
-use Rattle.segments.specs.Segments.{closest, closestPlaces, closestPoint, segments}
-use Rattle.points.specs.Overlap.{resultOf}
-use Rattle.points.specs.Points.{crosses, inSection, insideAxisEdge, pointDistance, pointInside, surfaceNear, surfaceStep}
-use Rattle.boxes.specs.Boxes.{aabb, boxDistance, boxGap, boxHolds, boxPenetration, boxWitness, edgeBox, segmentThroughInterior}
-use Rattle.boxes.specs.Boxes.{strictlyInsideAabb}
+use Rattle.section.specs.profile.Vertices.{any, upto}
+use Rattle.section.specs.declared.profile.shapes.Aabb.{Aabb}
+use Rattle.section.specs.segments.Clip.{clip, clipSide}
+use Rattle.section.specs.segments.Segments.{closest, closestPlaces, closestPoint, segments}
+use Rattle.section.specs.points.Overlap.{resultOf}
+use Rattle.section.specs.points.Points.{crosses, inSection, insideAxisEdge, pointDistance, pointInside, surfaceNear, surfaceStep}
+use Rattle.section.specs.boxes.Boxes.{aabb, boxDistance, boxGap, boxHolds, boxPenetration, boxWitness, edgeBox, segmentThroughInterior}
+use Rattle.section.specs.boxes.Boxes.{strictlyInsideAabb}
 use Rattle.truth.specs.Exact.{origin, place, sqd, units}
 use Rattle.truth.specs.Boxes.{InBox, OnEdges}
 use Rattle.truth.proofs.Boxes.Lengths.{Coordinate}

@@ -7,15 +7,15 @@ use mathlib.Core.Path.{_≡_, refl}
 use lib.Dec.{leb→le}
 use lib.Ieee.{Float, binary64, neg, add, sub, mul, div, lt, le, ofBits}
 use Rattle.arith.specs.Num.{isFinite}
-use Rattle.roots.specs.Roots.{sqrt, hypot}
-use Rattle.profile.specs.Vertices.{any, upto, vertexAt}
-use Rattle.profile.specs.declared.shapes.Aabb.{Aabb}
-use Rattle.segments.specs.Segments.{closestPoint, closest, closestPlaces, segments}
-use Rattle.segments.specs.Clip.{clipSide, clip}
-use Rattle.points.specs.Points.{surfaceStep, surfaceNear, crosses, pointInside, insideAxisEdge, inSection, pointDistance}
-use Rattle.points.specs.Overlap.{resultOf}
-use Rattle.boxes.specs.Boxes.{edgeBox, strictlyInsideAabb, segmentThroughInterior, boxGap, boxPenetration, boxWitness, boxHolds}
-use Rattle.boxes.specs.Boxes.{boxDistance, aabb}
+use Rattle.arith.specs.roots.Roots.{sqrt, hypot}
+use Rattle.section.specs.profile.Vertices.{any, upto, vertexAt}
+use Rattle.section.specs.declared.profile.shapes.Aabb.{Aabb}
+use Rattle.section.specs.segments.Segments.{closestPoint, closest, closestPlaces, segments}
+use Rattle.section.specs.segments.Clip.{clipSide, clip}
+use Rattle.section.specs.points.Points.{surfaceStep, surfaceNear, crosses, pointInside, insideAxisEdge, inSection, pointDistance}
+use Rattle.section.specs.points.Overlap.{resultOf}
+use Rattle.section.specs.boxes.Boxes.{edgeBox, strictlyInsideAabb, segmentThroughInterior, boxGap, boxPenetration, boxWitness, boxHolds}
+use Rattle.section.specs.boxes.Boxes.{boxDistance, aabb}
 use Rattle.arith.specs.Whole.{apart}
 use Rattle.truth.specs.Exact.{origin, place, size}
 

@@ -8,11 +8,11 @@ use native.Mathlib.Nat.{mul-le-mul-left, mul-le-mul-right, one-mul}
 use native.Mathlib.Omega.{arith}
 use lib.Dec.{leb→le, lit<, T}
 use lib.Ieee.{binary64, div, Float, Format, low, prec}
-use Rattle.roots.proofs.Numbers.{decide}
-use Rattle.roots.proofs.Rounding.Key.{finiteNumber, key, mid, unit, unit-pos}
-use Rattle.roots.proofs.Rounding.Product.{negativePart, positivePart}
-use Rattle.roots.proofs.Rounding.Quotient.{div-key}
-use Rattle.roots.proofs.Rounding.RoundKey.{roundKey, roundKey-mono, roundKey-side}
+use Rattle.arith.proofs.roots.Numbers.{decide}
+use Rattle.arith.proofs.roots.Rounding.Key.{finiteNumber, key, mid, unit, unit-pos}
+use Rattle.arith.proofs.roots.Rounding.Product.{negativePart, positivePart}
+use Rattle.arith.proofs.roots.Rounding.Quotient.{div-key}
+use Rattle.arith.proofs.roots.Rounding.RoundKey.{roundKey, roundKey-mono, roundKey-side}
 use Rattle.arith.specs.F64.{_⊕_, _⊖_, _⊗_, _⊘_}
 use Rattle.arith.proofs.Laws.Bounded.{mid-lt, one-lt}
 use Rattle.arith.proofs.Laws.Bounds.{roundKey-within}

@@ -9,16 +9,16 @@ use native.Mathlib.Nat.{le-of-eq, le-trans}
 use native.Mathlib.Omega.{arith}
 use lib.Dec.{leb→le, T}
 use lib.Ieee.{binary64, fin, Float, inf, lt, nan, neg, ofBits}
-use Rattle.roots.proofs.Rounding.Key.{key, magnitude, mid, number, unit}
+use Rattle.arith.proofs.roots.Rounding.Key.{key, magnitude, mid, number, unit}
 use Rattle.arith.specs.F64.{_≺_, _≼_, 𝟘, ∞, e-8, e-9, e-12}
 use Rattle.arith.proofs.Laws.Hypot.{inf-number}
 use Rattle.arith.proofs.Laws.Sizes.{K, M, zero-key}
-use Rattle.profile.proofs.Steps.{pick}
-use Rattle.profile.specs.Vertices.{count, edgeAt, endAt, hit, on, vertexAt}
-use Rattle.profile.specs.declared.shapes.Aabb.{Aabb}
-use Rattle.profile.specs.declared.shapes.CollisionHit.{CollisionHit}
-use Rattle.points.specs.Overlap.{resultOf}
-use Rattle.boxes.specs.Boxes.{boxDistance, boxGap, boxHolds, boxPenetration, edgeBox}
+use Rattle.section.proofs.profile.Steps.{pick}
+use Rattle.section.specs.profile.Vertices.{count, edgeAt, endAt, hit, on, vertexAt}
+use Rattle.section.specs.declared.profile.shapes.Aabb.{Aabb}
+use Rattle.section.specs.declared.profile.shapes.CollisionHit.{CollisionHit}
+use Rattle.section.specs.points.Overlap.{resultOf}
+use Rattle.section.specs.boxes.Boxes.{boxDistance, boxGap, boxHolds, boxPenetration, edgeBox}
 use Rattle.truth.specs.Exact.{origin, place, sqd, units}
 use Rattle.truth.specs.Boxes.{InBox, OnEdges}
 use Rattle.truth.proofs.Places.{origin-is, place-is}

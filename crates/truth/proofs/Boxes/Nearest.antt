@@ -8,14 +8,14 @@ use native.Mathlib.Nat.{le-of-eq, le-of-lt, le-trans, mul-le-mul, mul-le-mul-lef
 use native.Mathlib.Omega.{arith}
 use lib.Dec.{T}
 use lib.Ieee.{binary64, Float}
-use Rattle.roots.proofs.Numbers.{decide}
-use Rattle.roots.proofs.Rounding.Key.{unit, unit-pos}
-use Rattle.roots.proofs.Rounding.KeyOrder.{lt→key}
+use Rattle.arith.proofs.roots.Numbers.{decide}
+use Rattle.arith.proofs.roots.Rounding.Key.{unit, unit-pos}
+use Rattle.arith.proofs.roots.Rounding.KeyOrder.{lt→key}
 use Rattle.arith.specs.F64.{_⊘_, _≺_, 𝟘, 𝟙}
 use Rattle.arith.proofs.Laws.Quotients.{inside, InUnit, one-inUnit, zero-inUnit}
 use Rattle.arith.proofs.Laws.Sizes.{Finite, finite-number, K, M, one-finite, zero-key, zero-number}
-use Rattle.profile.proofs.Steps.{pick}
-use Rattle.segments.specs.Segments.{unitClamp}
+use Rattle.section.proofs.profile.Steps.{pick}
+use Rattle.section.specs.segments.Segments.{unitClamp}
 use Rattle.arith.proofs.Laws.RoundingError.{Close}
 use Rattle.truth.proofs.Points.Foot.{before, between, beyond, Loss}
 use Rattle.truth.proofs.Points.Residual.{high-miss, inner-miss, low-miss}

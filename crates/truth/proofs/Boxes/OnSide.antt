@@ -5,8 +5,8 @@ use mathlib.Core.Path.{_≡_}
 use native.Mathlib.Nat.{le-of-eq, le-refl, le-trans, mul-le-mul}
 use native.Mathlib.Omega.{arith}
 use lib.Ieee.{binary64, Float, prec}
-use Rattle.roots.proofs.Rounding.Key.{unit, unit-pos}
-use Rattle.roots.specs.Roots.{hypot}
+use Rattle.arith.proofs.roots.Rounding.Key.{unit, unit-pos}
+use Rattle.arith.specs.roots.Roots.{hypot}
 use Rattle.arith.specs.F64.{_⊕_, _⊖_, _⊗_}
 use Rattle.arith.proofs.Laws.Quotients.{InUnit}
 use Rattle.arith.proofs.Laws.Sizes.{add-finite, Finite, finite-raise, K, M, mul-finite, sub-finite}

@@ -6,7 +6,7 @@ use mathlib.Core.Logic.{inl, inr, _⊎_}
 use mathlib.Core.Path.{_≡_, ap, subst, sym}
 use native.Mathlib.Nat.{le-of-eq, le-of-lt, le-trans, mul-le-mul-left, mul-pos}
 use native.Mathlib.Omega.{arith}
-use Rattle.roots.proofs.Numbers.{decide}
+use Rattle.arith.proofs.roots.Numbers.{decide}
 use Rattle.truth.specs.Exact.{sqd}
 use Rattle.truth.proofs.Points.Foot.{sqd-farther, sqd-farther-down}
 use Rattle.truth.proofs.Boxes.Beside.{same-zero}

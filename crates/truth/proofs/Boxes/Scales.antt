@@ -5,7 +5,7 @@ use native.Mathlib.Nat.{le-of-eq, le-trans, lt-of-lt-of-le, mul-le-mul, mul-le-m
 use native.Mathlib.Omega.{arith}
 use lib.Dec.{leb→le}
 use lib.Ieee.{binary64, ofBits}
-use Rattle.roots.proofs.Rounding.Key.{key, magnitude, mid, unit}
+use Rattle.arith.proofs.roots.Rounding.Key.{key, magnitude, mid, unit}
 use Rattle.arith.proofs.Laws.OperationErrors.{half}
 use Rattle.truth.proofs.Boxes.Lengths.{Coarse, Scale, Slim}
 use Rattle.truth.proofs.Boxes.Chain.{Small}

@@ -9,10 +9,10 @@ use lib.Dec.{leb→le}
 use lib.Ieee.{binary64, Float, prec}
 use Rattle.arith.proofs.Laws.Bounded.{bounded-up}
 use Rattle.arith.proofs.Laws.Sizes.{K}
-use Rattle.profile.specs.Vertices.{count, edgeAt, endAt, next, vertexAt}
-use Rattle.profile.specs.declared.shapes.Aabb.{Aabb}
-use Rattle.profile.specs.declared.shapes.Vertex.{Vertex}
-use Rattle.boxes.specs.Boxes.{boxDistance}
+use Rattle.section.specs.profile.Vertices.{count, edgeAt, endAt, next, vertexAt}
+use Rattle.section.specs.declared.profile.shapes.Aabb.{Aabb}
+use Rattle.section.specs.declared.profile.shapes.Vertex.{Vertex}
+use Rattle.section.specs.boxes.Boxes.{boxDistance}
 use Rattle.section.proofs.Demand.Hits.{next-below}
 use Rattle.truth.specs.Exact.{units}
 use Rattle.truth.specs.Points.{full, metre, Reach}

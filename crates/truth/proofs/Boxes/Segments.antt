@@ -12,11 +12,11 @@ use lib.Ieee.{binary64, Float, neg, prec}
 use Rattle.arith.specs.F64.{_⊖_, _⊗_, _⊘_, _≼_, 𝟘, 𝟙, e-18, e-24}
 use Rattle.arith.proofs.Laws.Bounded.{Bounded, bounded-up}
 use Rattle.arith.proofs.Laws.Sizes.{add-finite, Finite, finite-raise, K, M, mul-finite, sub-finite}
-use Rattle.profile.proofs.Steps.{pick}
-use Rattle.profile.specs.declared.shapes.Edge.{Edge}
-use Rattle.profile.specs.declared.shapes.Vertex.{Vertex}
-use Rattle.segments.specs.Segments.{closestPlaces, dot, minus, places, segments, unitClamp}
-use Rattle.segments.specs.declared.shapes.Places.{Places}
+use Rattle.section.proofs.profile.Steps.{pick}
+use Rattle.section.specs.declared.profile.shapes.Edge.{Edge}
+use Rattle.section.specs.declared.profile.shapes.Vertex.{Vertex}
+use Rattle.section.specs.segments.Segments.{closestPlaces, dot, minus, places, segments, unitClamp}
+use Rattle.section.specs.declared.segments.shapes.Places.{Places}
 use Rattle.arith.specs.Whole.{apart}
 use Rattle.truth.proofs.Points.Closest.{Within}
 use Rattle.truth.proofs.Boxes.Axis.{side-wide}

@@ -8,15 +8,15 @@ use native.Mathlib.Omega.{arith}
 use lib.Dec.{T}
 use lib.Ieee.{binary64, Float}
 use lib.Pow.{pow-pos}
-use Rattle.roots.specs.Roots.{hypot}
-use Rattle.roots.proofs.Numbers.{decide}
-use Rattle.roots.proofs.Rounding.Key.{unit-pos}
-use Rattle.roots.proofs.Rounding.KeyOrder.{le→key}
+use Rattle.arith.specs.roots.Roots.{hypot}
+use Rattle.arith.proofs.roots.Numbers.{decide}
+use Rattle.arith.proofs.roots.Rounding.Key.{unit-pos}
+use Rattle.arith.proofs.roots.Rounding.KeyOrder.{le→key}
 use Rattle.arith.specs.F64.{_≼_, 𝟘, 𝟙, e-24}
 use Rattle.arith.proofs.Laws.Quotients.{InUnit, one-inUnit, zero-inUnit}
 use Rattle.arith.proofs.Laws.Sizes.{e-24-finite, finite-number, K, M, zero-key}
-use Rattle.profile.specs.declared.shapes.Vertex.{Vertex}
-use Rattle.segments.specs.Segments.{dot, minus, places}
+use Rattle.section.specs.declared.profile.shapes.Vertex.{Vertex}
+use Rattle.section.specs.segments.Segments.{dot, minus, places}
 use Rattle.arith.specs.Whole.{apart}
 use Rattle.truth.specs.Exact.{sqd}
 use Rattle.truth.proofs.Points.Closest.{Within}

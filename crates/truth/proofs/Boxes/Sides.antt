@@ -10,12 +10,12 @@ use native.Mathlib.Omega.{arith}
 use lib.Dec.{T, T-not}
 use lib.Ieee.{add, binary64, div, Float, Format, neg}
 use lib.Pow.{pow-pos}
-use Rattle.roots.specs.Roots.{hypot}
-use Rattle.roots.proofs.Rounding.Key.{finiteNumber, key, mid, unit, unit-pos}
-use Rattle.roots.proofs.Rounding.KeyOrder.{lt→key}
-use Rattle.roots.proofs.Rounding.Quotient.{div-key}
-use Rattle.roots.proofs.Rounding.RoundKey.{roundKey-same}
-use Rattle.roots.proofs.Rounding.Sum.{add-key}
+use Rattle.arith.specs.roots.Roots.{hypot}
+use Rattle.arith.proofs.roots.Rounding.Key.{finiteNumber, key, mid, unit, unit-pos}
+use Rattle.arith.proofs.roots.Rounding.KeyOrder.{lt→key}
+use Rattle.arith.proofs.roots.Rounding.Quotient.{div-key}
+use Rattle.arith.proofs.roots.Rounding.RoundKey.{roundKey-same}
+use Rattle.arith.proofs.roots.Rounding.Sum.{add-key}
 use Rattle.arith.proofs.Laws.Exact.{roundKey-self}
 use Rattle.arith.specs.F64.{_⊕_, _⊖_, _⊗_, _⊘_, _≺_, _≼_, 𝟘, 𝟙, e-18, e-24}
 use Rattle.arith.specs.Num.{abs}
@@ -23,9 +23,9 @@ use Rattle.arith.proofs.Laws.Quotients.{div-finite, inside, InUnit, over-e-24, 
 use Rattle.arith.proofs.Laws.Sizes.{add-finite, Finite, finite-number, finite-raise, K, M, mul-finite, one-finite, zero-finite}
 use Rattle.arith.proofs.Laws.Sizes.{zero-key}
 use Rattle.arith.proofs.Laws.Sizes.{zero-number}
-use Rattle.profile.proofs.Steps.{pick}
-use Rattle.segments.specs.Segments.{closestPlaces, places, unitClamp}
-use Rattle.segments.specs.declared.shapes.Places.{Places}
+use Rattle.section.proofs.profile.Steps.{pick}
+use Rattle.section.specs.segments.Segments.{closestPlaces, places, unitClamp}
+use Rattle.section.specs.declared.segments.shapes.Places.{Places}
 use Rattle.arith.specs.Whole.{apart}
 use Rattle.truth.proofs.Points.Lagrange.{apart-split}
 use Rattle.arith.proofs.Laws.RoundingError.{Close}

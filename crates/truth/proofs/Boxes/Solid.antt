@@ -12,9 +12,9 @@ use native.Mathlib.Omega.{arith}
 use lib.Dec.{T}
 use lib.Ieee.{Float}
 use Rattle.arith.specs.Whole.{apart}
-use Rattle.profile.specs.Vertices.{endAt, vertexAt}
-use Rattle.profile.specs.declared.shapes.Aabb.{Aabb}
-use Rattle.profile.specs.declared.shapes.Vertex.{Vertex}
+use Rattle.section.specs.profile.Vertices.{endAt, vertexAt}
+use Rattle.section.specs.declared.profile.shapes.Aabb.{Aabb}
+use Rattle.section.specs.declared.profile.shapes.Vertex.{Vertex}
 use Rattle.truth.specs.Exact.{NotOver, place, sqd}
 use Rattle.truth.specs.Points.{between}
 use Rattle.truth.specs.Solid.{exactInside, vertexInside}

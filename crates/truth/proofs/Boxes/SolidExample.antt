@@ -5,20 +5,20 @@ use mathlib.Core.List.{List}
 use mathlib.Core.Path.{_≡_, refl}
 use lib.Dec.{T}
 use lib.Ieee.{add, binary64, div, eq, fits, Float, le, lt, mul, nan, neg, ofBits, sub}
-use Rattle.roots.specs.Roots.{hypot, sqrt}
+use Rattle.arith.specs.roots.Roots.{hypot, sqrt}
 use Rattle.arith.specs.Num.{isFinite}
-use Rattle.profile.specs.Refusals.{anyBelowAxis, anyOf, boxNumbers, refusal}
-use Rattle.profile.specs.Replies.{value}
-use Rattle.profile.specs.Vertices.{any, upto}
-use Rattle.profile.proofs.Each.{All, all-at, cons, nil}
-use Rattle.segments.specs.Clip.{clip, clipSide}
-use Rattle.segments.specs.Segments.{closest, closestPlaces, closestPoint, segments}
-use Rattle.points.specs.Overlap.{resultOf}
-use Rattle.points.specs.Points.{crosses, inSection, insideAxisEdge, pointDistance, pointInside, surfaceNear, surfaceStep}
-use Rattle.boxes.specs.Boxes.{boxDistance, boxGap, boxHolds, boxPenetration, boxWitness, edgeBox, segmentThroughInterior}
-use Rattle.boxes.specs.Boxes.{strictlyInsideAabb}
+use Rattle.section.specs.profile.Refusals.{anyBelowAxis, anyOf, boxNumbers, refusal}
+use Rattle.section.specs.profile.Replies.{value}
+use Rattle.section.specs.profile.Vertices.{any, upto}
+use Rattle.section.proofs.profile.Each.{All, all-at, cons, nil}
+use Rattle.section.specs.segments.Clip.{clip, clipSide}
+use Rattle.section.specs.segments.Segments.{closest, closestPlaces, closestPoint, segments}
+use Rattle.section.specs.points.Overlap.{resultOf}
+use Rattle.section.specs.points.Points.{crosses, inSection, insideAxisEdge, pointDistance, pointInside, surfaceNear, surfaceStep}
+use Rattle.section.specs.boxes.Boxes.{boxDistance, boxGap, boxHolds, boxPenetration, boxWitness, edgeBox, segmentThroughInterior}
+use Rattle.section.specs.boxes.Boxes.{strictlyInsideAabb}
 use Rattle.bodies.specs.declared.shapes.Body.the-variants.{Box}
-use Rattle.verdicts.specs.Verdicts.{bodyVerdict}
+use Rattle.bodies.specs.verdicts.Verdicts.{bodyVerdict}
 use Rattle.truth.specs.Exact.{origin, place, units}
 use Rattle.truth.specs.Points.{full, Held}
 use Rattle.truth.specs.Solid.{area, exactCrosses, exactInside, sound}

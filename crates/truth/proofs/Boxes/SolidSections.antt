@@ -5,12 +5,12 @@ use mathlib.Core.List.{List}
 use native.Mathlib.Omega.{arith}
 use lib.Dec.{leb→le, T}
 use lib.Ieee.{binary64, Float, ofBits, prec}
-use Rattle.roots.proofs.Rounding.Key.{key, magnitude, mid, unit}
+use Rattle.arith.proofs.roots.Rounding.Key.{key, magnitude, mid, unit}
 use Rattle.arith.specs.F64.{e-9}
 use Rattle.arith.proofs.Laws.OperationErrors.{half}
 use Rattle.arith.proofs.Laws.Sizes.{K, M}
-use Rattle.profile.specs.declared.shapes.Aabb.{Aabb}
-use Rattle.boxes.specs.Boxes.{boxDistance}
+use Rattle.section.specs.declared.profile.shapes.Aabb.{Aabb}
+use Rattle.section.specs.boxes.Boxes.{boxDistance}
 use Rattle.truth.specs.Exact.{units}
 use Rattle.truth.specs.Points.{full, metre, Reach}
 use Rattle.truth.specs.Solid.{plain, sound}

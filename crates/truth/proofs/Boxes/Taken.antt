@@ -8,17 +8,17 @@ use native.Mathlib.Nat.{le-of-eq, le-of-lt, le-refl, le-trans, mul-pos}
 use native.Mathlib.Omega.{arith}
 use lib.Dec.{leb→le, T}
 use lib.Ieee.{binary64, Float, neg, ofBits}
-use Rattle.roots.proofs.Numbers.{decide}
-use Rattle.roots.proofs.Rounding.Key.{key, magnitude, mid, number-of, unit}
-use Rattle.roots.proofs.Rounding.KeyOrder.{lt→key, nlt→key}
-use Rattle.roots.proofs.Rounding.Sum.{neg-key}
+use Rattle.arith.proofs.roots.Numbers.{decide}
+use Rattle.arith.proofs.roots.Rounding.Key.{key, magnitude, mid, number-of, unit}
+use Rattle.arith.proofs.roots.Rounding.KeyOrder.{lt→key, nlt→key}
+use Rattle.arith.proofs.roots.Rounding.Sum.{neg-key}
 use Rattle.arith.specs.F64.{_⊕_, _⊖_, _⊗_, _⊘_, _≺_, 𝟘, 𝟙, e-18}
 use Rattle.arith.specs.Num.{abs}
 use Rattle.arith.proofs.Laws.Quotients.{abs-over-e-18, div-finite, inside, InUnit, one-inUnit, zero-inUnit}
 use Rattle.arith.proofs.Laws.Sizes.{abs-finite, e-18-finite, Finite, finite-number, finite-raise, K, M, mul-finite, one-finite}
 use Rattle.arith.proofs.Laws.Sizes.{sub-finite, zero-finite, zero-key, zero-number}
-use Rattle.profile.proofs.Steps.{pick}
-use Rattle.segments.specs.Segments.{unitClamp}
+use Rattle.section.proofs.profile.Steps.{pick}
+use Rattle.section.specs.segments.Segments.{unitClamp}
 use Rattle.arith.proofs.Laws.RoundingError.{Close}
 use Rattle.truth.proofs.Boxes.Across.{Best}
 use Rattle.truth.proofs.Boxes.Chain.{Dot, first-less, last-less, Small, Square, Times}

@@ -7,9 +7,9 @@ use native.Mathlib.Nat.{le-of-eq, le-of-lt, le-of-mul-le-mul-left, le-trans, mul
 use native.Mathlib.Omega.{arith}
 use lib.Dec.{leb→le, lit<, T, T-not}
 use lib.Ieee.{binary64, Float, ofBits}
-use Rattle.roots.proofs.Numbers.{decide}
-use Rattle.roots.proofs.Rounding.Key.{key, magnitude, mid, unit}
-use Rattle.roots.proofs.Rounding.KeyOrder.{key→le}
+use Rattle.arith.proofs.roots.Numbers.{decide}
+use Rattle.arith.proofs.roots.Rounding.Key.{key, magnitude, mid, unit}
+use Rattle.arith.proofs.roots.Rounding.KeyOrder.{key→le}
 use Rattle.arith.specs.F64.{_⊖_, _⊗_, _≼_, e-24}
 use Rattle.arith.proofs.Laws.Bounded.{Bounded}
 use Rattle.arith.proofs.Laws.BoundedValue.{bounded→value, mul-value}

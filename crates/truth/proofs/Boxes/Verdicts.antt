@@ -7,22 +7,22 @@ use mathlib.Core.Path.{_≡_}
 use native.Mathlib.Omega.{arith}
 use lib.Dec.{lit≤, T}
 use lib.Ieee.{binary64, fits, Float}
-use Rattle.roots.proofs.Rounding.KeyOrder.{nlt→key}
+use Rattle.arith.proofs.roots.Rounding.KeyOrder.{nlt→key}
 use Rattle.arith.specs.F64.{_⊕_, e-9}
 use Rattle.arith.proofs.Laws.Sizes.{add-finite, e-9-finite, Finite, finite-number, finite-raise, held-finite, K, M}
-use Rattle.profile.specs.Refusals.{axisTests, boundsTests, boxNumbers, boxTests, refusal}
-use Rattle.profile.specs.Replies.{value}
-use Rattle.profile.specs.declared.shapes.Aabb.{Aabb}
-use Rattle.profile.proofs.Each.{All, all-rest, cons, nil}
-use Rattle.profile.proofs.Refusals.Passed.{NumberTaken, taken}
-use Rattle.boxes.specs.Boxes.{boxDistance}
+use Rattle.section.specs.profile.Refusals.{axisTests, boundsTests, boxNumbers, boxTests, refusal}
+use Rattle.section.specs.profile.Replies.{value}
+use Rattle.section.specs.declared.profile.shapes.Aabb.{Aabb}
+use Rattle.section.proofs.profile.Each.{All, all-rest, cons, nil}
+use Rattle.section.proofs.profile.Refusals.Passed.{NumberTaken, taken}
+use Rattle.section.specs.boxes.Boxes.{boxDistance}
 use Rattle.section.specs.Demand.{AtMost}
 use Rattle.section.proofs.Demand.Accepted.{section-taken, taken-atMost}
 use Rattle.section.proofs.Demand.AtMost.{atMost-given, atMost-raise}
 use Rattle.section.proofs.Demand.Boxes.{box-atMost}
 use Rattle.section.proofs.Demand.Hits.{BoxAtMost}
 use Rattle.bodies.specs.declared.shapes.Body.the-variants.{Box}
-use Rattle.verdicts.specs.Verdicts.{bodyVerdict, collides}
+use Rattle.bodies.specs.verdicts.Verdicts.{bodyVerdict, collides}
 use Rattle.truth.specs.Exact.{units}
 use Rattle.truth.specs.Points.{Held, Reach, WithinReach}
 use Rattle.truth.specs.Solid.{sound}

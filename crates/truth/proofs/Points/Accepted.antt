@@ -5,16 +5,16 @@ use native.Mathlib.Omega.{arith}
 use lib.Dec.{leb→le, lit<, T}
 use lib.Ieee.{binary64, fits, Float, nan, prec}
 use lib.ListN.{getD, length}
-use Rattle.roots.proofs.Rounding.Key.{number, unit}
+use Rattle.arith.proofs.roots.Rounding.Key.{number, unit}
 use Rattle.arith.specs.F64.{e-9}
 use Rattle.arith.specs.declared.vector.Vec3.{Vec3}
 use Rattle.arith.proofs.Laws.Bounded.{Bounded, overflow}
 use Rattle.arith.proofs.Laws.SizedOrder.{hypot-not-negative}
 use Rattle.arith.proofs.Laws.Sizes.{e-9-finite, finite-number, finite-raise, held-finite, K, M}
-use Rattle.profile.specs.Vertices.{count, vertexAt}
-use Rattle.profile.proofs.Each.{All, all-at}
-use Rattle.profile.proofs.Refusals.Passed.{NumberTaken}
-use Rattle.points.specs.Points.{meridian}
+use Rattle.section.specs.profile.Vertices.{count, vertexAt}
+use Rattle.section.proofs.profile.Each.{All, all-at}
+use Rattle.section.proofs.profile.Refusals.Passed.{NumberTaken}
+use Rattle.section.specs.points.Points.{meridian}
 use Rattle.section.specs.Demand.{AtMost}
 use Rattle.section.proofs.Demand.Accepted.{taken-atMost}
 use Rattle.section.proofs.Demand.AtMost.{atMost-given}

@@ -10,18 +10,18 @@ use lib.Dec.{leb→le, T}
 use lib.Ieee.{binary64, fits, Float}
 use Rattle.arith.specs.F64.{_⊕_, _≺_, e-9}
 use Rattle.arith.specs.declared.vector.Vec3.{Vec3}
-use Rattle.profile.specs.Refusals.{axisTests, pointNumbers, pointTests, radiusTests, refusal, sphereNumbers, sphereTests}
-use Rattle.profile.specs.Replies.{OfValue, reply, Reply, turned-down, value}
-use Rattle.profile.specs.Vertices.{count, endAt, vertexAt}
-use Rattle.profile.specs.declared.shapes.CollisionHit.{CollisionHit}
-use Rattle.profile.specs.declared.shapes.Sphere.{Sphere}
-use Rattle.profile.proofs.Each.{All, all-first, all-rest, cons}
-use Rattle.profile.proofs.Refusals.Passed.{NumberTaken, taken}
-use Rattle.profile.proofs.Replies.{of-reply}
-use Rattle.points.specs.Points.{meridian, pointDistance, sphereDistance}
+use Rattle.section.specs.profile.Refusals.{axisTests, pointNumbers, pointTests, radiusTests, refusal, sphereNumbers, sphereTests}
+use Rattle.section.specs.profile.Replies.{OfValue, reply, Reply, turned-down, value}
+use Rattle.section.specs.profile.Vertices.{count, endAt, vertexAt}
+use Rattle.section.specs.declared.profile.shapes.CollisionHit.{CollisionHit}
+use Rattle.section.specs.declared.profile.shapes.Sphere.{Sphere}
+use Rattle.section.proofs.profile.Each.{All, all-first, all-rest, cons}
+use Rattle.section.proofs.profile.Refusals.Passed.{NumberTaken, taken}
+use Rattle.section.proofs.profile.Replies.{of-reply}
+use Rattle.section.specs.points.Points.{meridian, pointDistance, sphereDistance}
 use Rattle.section.specs.Answers.{pointAnswer, sphereAnswer}
 use Rattle.bodies.specs.declared.shapes.Body.the-variants.{Sphere as Ball}
-use Rattle.verdicts.specs.Verdicts.{bodyVerdict}
+use Rattle.bodies.specs.verdicts.Verdicts.{bodyVerdict}
 use Rattle.truth.specs.Exact.{origin, place, size, size-of-sum, unitsOfSum}
 use Rattle.truth.specs.Points.{ClearInSpace, full, Held, metre, Reach, TrueDistance, WithinReach, ε, ε₂}
 use Rattle.truth.proofs.Points.Accepted.{fine-of, In, in-bounded, in-number, nine-of, numbers-in, Ready, ready, room-of}

@@ -8,10 +8,10 @@ use native.Mathlib.Nat.{le-of-eq, le-trans}
 use native.Mathlib.Omega.{arith}
 use lib.Dec.{leb→le, lit<, T}
 use lib.Ieee.{binary64, Float, ofBits, prec}
-use Rattle.roots.specs.Roots.{hypot}
-use Rattle.roots.proofs.Rounding.Key.{key, magnitude, mid, number, number-of, unit, unit-pos}
-use Rattle.roots.proofs.Rounding.KeyOrder.{lt→key, nlt→key, le→key}
-use Rattle.roots.proofs.Rounding.Quotient.{div-number}
+use Rattle.arith.specs.roots.Roots.{hypot}
+use Rattle.arith.proofs.roots.Rounding.Key.{key, magnitude, mid, number, number-of, unit, unit-pos}
+use Rattle.arith.proofs.roots.Rounding.KeyOrder.{lt→key, nlt→key, le→key}
+use Rattle.arith.proofs.roots.Rounding.Quotient.{div-number}
 use Rattle.arith.specs.F64.{_⊖_, _⊗_, _⊘_, _≺_, _≼_, 𝟘, 𝟙, e-12, e-24}
 use Rattle.arith.proofs.Laws.Bounded.{between-bounded, Bounded}
 use Rattle.arith.proofs.Laws.BoundedValue.{bounded→value, hypot-value}
@@ -20,9 +20,9 @@ use Rattle.arith.proofs.Laws.Monotone.{keySize}
 use Rattle.arith.proofs.Laws.Order.{nle→key}
 use Rattle.arith.proofs.Laws.Quotients.{InUnit, one-inUnit, zero-inUnit}
 use Rattle.arith.proofs.Laws.Sizes.{e-24-finite, finite-number, K, M, one-finite, zero-finite, zero-key, zero-number}
-use Rattle.profile.proofs.Steps.{pick}
-use Rattle.profile.specs.declared.shapes.Vertex.{Vertex}
-use Rattle.segments.specs.Segments.{along, closestPoint, dot, minus, unitClamp}
+use Rattle.section.proofs.profile.Steps.{pick}
+use Rattle.section.specs.declared.profile.shapes.Vertex.{Vertex}
+use Rattle.section.specs.segments.Segments.{along, closestPoint, dot, minus, unitClamp}
 use Rattle.truth.specs.Exact.{away², size}
 use Rattle.truth.specs.Points.{exact², NeverOver, Reached}
 use Rattle.truth.proofs.Points.Coordinate.{at-start, coordinate, Scale, w-raised, X}

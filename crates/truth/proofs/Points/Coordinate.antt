@@ -7,7 +7,7 @@ use native.Mathlib.Omega.{arith}
 use lib.Dec.{T}
 use lib.Ieee.{add, Float, Format, low, mul, prec, sub}
 use lib.Pow.{pow-add}
-use Rattle.roots.proofs.Rounding.Key.{finiteNumber, key, mid, unit}
+use Rattle.arith.proofs.roots.Rounding.Key.{finiteNumber, key, mid, unit}
 use Rattle.arith.proofs.Laws.Bounded.{Bounded, bounded-up, mid-lt, overflow}
 use Rattle.arith.proofs.Laws.BoundedValue.{add-value, bounded→value, mul-value, sub-value}
 use Rattle.arith.proofs.Laws.RoundingError.{Close}

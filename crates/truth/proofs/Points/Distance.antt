@@ -9,20 +9,20 @@ use native.Mathlib.Omega.{arith}
 use lib.Dec.{T, T-not}
 use lib.Ieee.{binary64, fin, Float, inf, nan, neg, prec}
 use lib.Ieee.Scale.{finite}
-use Rattle.roots.proofs.Rounding.Key.{finite-inside, finite-of, mid-pos, number, number-of}
-use Rattle.roots.proofs.Rounding.KeyOrder.{le→key, lt→key, nlt→key}
-use Rattle.roots.proofs.Rounding.Sum.{neg-key}
+use Rattle.arith.proofs.roots.Rounding.Key.{finite-inside, finite-of, mid-pos, number, number-of}
+use Rattle.arith.proofs.roots.Rounding.KeyOrder.{le→key, lt→key, nlt→key}
+use Rattle.arith.proofs.roots.Rounding.Sum.{neg-key}
 use Rattle.arith.specs.F64.{_≺_, _≼_, 𝟘, ∞, e-9, e-12}
 use Rattle.arith.specs.Num.{abs, isFinite}
 use Rattle.arith.proofs.Laws.Bounded.{between-bounded, Bounded, mid-lt, neg-bounded}
 use Rattle.arith.proofs.Laws.Hypot.{inf-key, inf-number}
 use Rattle.arith.proofs.Laws.Sizes.{e-12-finite, finite-number, K, M, zero-finite, zero-key}
-use Rattle.profile.proofs.Steps.{any-found, pick, upto-steps}
-use Rattle.profile.specs.Vertices.{count, edgeAt, endAt, hit, next, on, vertexAt}
-use Rattle.profile.specs.declared.shapes.CollisionHit.{CollisionHit}
-use Rattle.profile.specs.declared.shapes.Vertex.{Vertex}
-use Rattle.points.specs.Points.{edgeIsSurface, inSection, pointDistance, surfaceNear, surfaceStep}
-use Rattle.segments.specs.Segments.{closest}
+use Rattle.section.proofs.profile.Steps.{any-found, pick, upto-steps}
+use Rattle.section.specs.profile.Vertices.{count, edgeAt, endAt, hit, next, on, vertexAt}
+use Rattle.section.specs.declared.profile.shapes.CollisionHit.{CollisionHit}
+use Rattle.section.specs.declared.profile.shapes.Vertex.{Vertex}
+use Rattle.section.specs.points.Points.{edgeIsSurface, inSection, pointDistance, surfaceNear, surfaceStep}
+use Rattle.section.specs.segments.Segments.{closest}
 use Rattle.section.specs.Demand.{offAxis}
 use Rattle.section.proofs.Demand.Hits.{next-below}
 use Rattle.arith.specs.Whole.{apart}

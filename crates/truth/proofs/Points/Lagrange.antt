@@ -4,7 +4,7 @@ use mathlib.Core.Logic.{inl, inr, _⊎_}
 use mathlib.Core.Path.{_≡_, ap, ap₂, _∙_}
 use native.Mathlib.Nat.{le-of-lt}
 use native.Mathlib.Omega.{arith}
-use Rattle.roots.proofs.Numbers.{decide}
+use Rattle.arith.proofs.roots.Numbers.{decide}
 use Rattle.arith.specs.Whole.{apart}
 use Rattle.truth.specs.Exact.{sqd}
 

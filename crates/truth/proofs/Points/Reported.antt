@@ -6,7 +6,7 @@ use mathlib.Core.Logic.{inl, inr}
 use mathlib.Core.Path.{_≡_, ap, refl}
 use native.Mathlib.Nat.{le-of-lt, le-trans, mul-le-mul, mul-le-mul-left, mul-le-mul-right, mul-lt-mul-of-pos-left, mul-pos}
 use native.Mathlib.Omega.{arith}
-use Rattle.roots.proofs.Numbers.{decide}
+use Rattle.arith.proofs.roots.Numbers.{decide}
 use Rattle.truth.proofs.Points.Lagrange.{sqd-is}
 use Rattle.arith.proofs.Laws.OperationErrors.{RootClose}
 

@@ -8,12 +8,12 @@ use native.Mathlib.Omega.{arith}
 use lib.Dec.{T}
 use lib.Ieee.{add, div, Float, Format, low, mul, prec, sub}
 use lib.Pow.{pow-pos}
-use Rattle.roots.specs.Roots.{hypot}
-use Rattle.roots.proofs.Numbers.{decide}
-use Rattle.roots.proofs.Rounding.Key.{finiteNumber, key, mid, unit, unit-pos}
-use Rattle.roots.proofs.Rounding.Product.{negativePart, positivePart}
-use Rattle.roots.proofs.Rounding.Quotient.{div-key}
-use Rattle.roots.proofs.Rounding.RoundKey.{roundKey, roundKey-mono, roundKey-side}
+use Rattle.arith.specs.roots.Roots.{hypot}
+use Rattle.arith.proofs.roots.Numbers.{decide}
+use Rattle.arith.proofs.roots.Rounding.Key.{finiteNumber, key, mid, unit, unit-pos}
+use Rattle.arith.proofs.roots.Rounding.Product.{negativePart, positivePart}
+use Rattle.arith.proofs.roots.Rounding.Quotient.{div-key}
+use Rattle.arith.proofs.roots.Rounding.RoundKey.{roundKey, roundKey-mono, roundKey-side}
 use Rattle.arith.proofs.Laws.Bounded.{Bounded, mid-lt, one-lt, overflow}
 use Rattle.arith.proofs.Laws.Bounds.{roundKey-within}
 use Rattle.arith.proofs.Laws.BoundedValue.{add-value, bounded→value, mul-value, sub-value}

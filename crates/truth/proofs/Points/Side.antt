@@ -8,7 +8,7 @@ use mathlib.Core.Path.{_≡_, ap, refl, sym, _∙_}
 use native.Mathlib.Nat.{le-of-eq, le-of-lt, le-of-mul-le-mul-left, le-trans, mul-le-mul, mul-le-mul-left, mul-le-mul-right}
 use native.Mathlib.Nat.{mul-pos}
 use native.Mathlib.Omega.{arith}
-use Rattle.roots.proofs.Numbers.{decide}
+use Rattle.arith.proofs.roots.Numbers.{decide}
 use Rattle.arith.proofs.Laws.RoundingError.{Close}
 use Rattle.arith.specs.Whole.{apart}
 use Rattle.truth.specs.Exact.{sqd}

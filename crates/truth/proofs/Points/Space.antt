@@ -6,14 +6,14 @@ use native.Mathlib.Nat.{le-of-eq, le-of-lt, le-trans, mul-le-mul, mul-sub, two-p
 use native.Mathlib.Omega.{arith}
 use lib.Ieee.{binary64, Float, prec}
 use lib.Pow.{pow-pos}
-use Rattle.roots.specs.Roots.{hypot}
+use Rattle.arith.specs.roots.Roots.{hypot}
 use Rattle.arith.specs.declared.vector.Vec3.{Vec3}
 use Rattle.arith.proofs.Laws.Bounded.{Bounded, mid-lt}
 use Rattle.arith.proofs.Laws.HypotKey.{hypot-is, root-not-negative}
 use Rattle.arith.proofs.Laws.Monotone.{keySize}
 use Rattle.arith.proofs.Laws.Sizes.{K, M}
-use Rattle.profile.specs.declared.shapes.Vertex.{Vertex}
-use Rattle.points.specs.Points.{meridian}
+use Rattle.section.specs.declared.profile.shapes.Vertex.{Vertex}
+use Rattle.section.specs.points.Points.{meridian}
 use Rattle.arith.specs.Whole.{apart}
 use Rattle.truth.specs.Exact.{awayInSpace², away², NotOver, place, sqd, Turned}
 use Rattle.truth.specs.Points.{NeverOver, NeverOverInSpace}

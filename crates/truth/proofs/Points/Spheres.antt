@@ -8,17 +8,17 @@ use native.Mathlib.Omega.{arith}
 use lib.Dec.{T}
 use lib.Pow.{pow-mono}
 use lib.Ieee.{binary64, Float, prec}
-use Rattle.roots.proofs.Rounding.Key.{mid, number}
-use Rattle.roots.proofs.Rounding.KeyOrder.{nlt→key}
-use Rattle.roots.proofs.Rounding.Sum.{add-number}
+use Rattle.arith.proofs.roots.Rounding.Key.{mid, number}
+use Rattle.arith.proofs.roots.Rounding.KeyOrder.{nlt→key}
+use Rattle.arith.proofs.roots.Rounding.Sum.{add-number}
 use Rattle.arith.specs.F64.{_⊕_, _⊖_, _≺_, e-9}
 use Rattle.arith.proofs.Laws.Bounded.{Bounded, mid-lt, overflow}
 use Rattle.arith.proofs.Laws.BoundedValue.{bounded→value, sub-value}
 use Rattle.arith.proofs.Laws.Sizes.{K, M}
-use Rattle.profile.specs.Vertices.{count, vertexAt}
-use Rattle.profile.specs.declared.shapes.Sphere.{Sphere}
-use Rattle.profile.specs.declared.shapes.Vertex.{Vertex}
-use Rattle.points.specs.Points.{meridian, pointDistance, sphereDistance}
+use Rattle.section.specs.profile.Vertices.{count, vertexAt}
+use Rattle.section.specs.declared.profile.shapes.Sphere.{Sphere}
+use Rattle.section.specs.declared.profile.shapes.Vertex.{Vertex}
+use Rattle.section.specs.points.Points.{meridian, pointDistance, sphereDistance}
 use Rattle.arith.specs.Whole.{apart}
 use Rattle.truth.specs.Exact.{origin, place, size, size-of-sum, units, unitsOfSum}
 use Rattle.truth.specs.Points.{Surface, TrueDistance}

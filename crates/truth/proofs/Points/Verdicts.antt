@@ -8,18 +8,18 @@ use native.Mathlib.Omega.{arith}
 use lib.Dec.{leb→le, T}
 use lib.Ieee.{binary64, fits, Float}
 use lib.ListN.{length}
-use Rattle.roots.proofs.Rounding.Key.{number}
+use Rattle.arith.proofs.roots.Rounding.Key.{number}
 use Rattle.arith.specs.F64.{_⊕_, _≺_, e-9}
-use Rattle.profile.specs.Refusals.{axisTests, radiusTests, refusal, sphereNumbers, sphereTests}
-use Rattle.profile.specs.Replies.{reply, Reply, turned-down, value}
-use Rattle.profile.specs.Vertices.{count, endAt, vertexAt}
-use Rattle.profile.specs.declared.shapes.Sphere.{Sphere}
-use Rattle.profile.proofs.Each.{All, all-first, all-rest, cons, nil}
-use Rattle.profile.proofs.Refusals.Passed.{NumberTaken, taken}
-use Rattle.points.specs.Points.{meridian, sphereDistance}
+use Rattle.section.specs.profile.Refusals.{axisTests, radiusTests, refusal, sphereNumbers, sphereTests}
+use Rattle.section.specs.profile.Replies.{reply, Reply, turned-down, value}
+use Rattle.section.specs.profile.Vertices.{count, endAt, vertexAt}
+use Rattle.section.specs.declared.profile.shapes.Sphere.{Sphere}
+use Rattle.section.proofs.profile.Each.{All, all-first, all-rest, cons, nil}
+use Rattle.section.proofs.profile.Refusals.Passed.{NumberTaken, taken}
+use Rattle.section.specs.points.Points.{meridian, sphereDistance}
 use Rattle.bodies.specs.declared.shapes.Body.the-variants.{Sphere as Ball}
 use Rattle.section.proofs.Demand.Accepted.{taken-atMost}
-use Rattle.verdicts.specs.Verdicts.{bodyVerdict}
+use Rattle.bodies.specs.verdicts.Verdicts.{bodyVerdict}
 use Rattle.truth.specs.Exact.{origin, place, size-of-sum, unitsOfSum}
 use Rattle.truth.specs.Points.{ClearInSpace, full, Held, Reach, Surface, WithinReach, ε₂}
 use Rattle.truth.proofs.Points.Accepted.{fine-of, in-bounded, in-number, nine-of, room-of, room-under, squareOf, unitOf}

@@ -12,18 +12,18 @@ use lib.Ieee.{binary64, fits, Float}
 use Rattle.arith.specs.F64.{_≼_, e-8, e-9}
 use Rattle.arith.specs.declared.vector.Vec3.{Vec3}
 use Rattle.arith.proofs.Laws.Sizes.{K, M}
-use Rattle.profile.specs.Refusals.{axisTests, pointNumbers, pointTests, radiusTests, refusal, sphereNumbers, sphereTests}
-use Rattle.profile.specs.Replies.{OfValue, value}
-use Rattle.profile.specs.Vertices.{any, count, endAt, vertexAt}
-use Rattle.profile.specs.declared.shapes.CollisionHit.{CollisionHit}
-use Rattle.profile.specs.declared.shapes.Sphere.{Sphere}
-use Rattle.profile.proofs.Each.{All, all-first, all-rest}
-use Rattle.profile.proofs.Refusals.Passed.{NumberTaken, taken}
-use Rattle.profile.proofs.Replies.{of-reply}
-use Rattle.points.specs.Points.{inSection, insideAxisEdge, meridian, pointDistance, pointInside, sphereDistance}
+use Rattle.section.specs.profile.Refusals.{axisTests, pointNumbers, pointTests, radiusTests, refusal, sphereNumbers, sphereTests}
+use Rattle.section.specs.profile.Replies.{OfValue, value}
+use Rattle.section.specs.profile.Vertices.{any, count, endAt, vertexAt}
+use Rattle.section.specs.declared.profile.shapes.CollisionHit.{CollisionHit}
+use Rattle.section.specs.declared.profile.shapes.Sphere.{Sphere}
+use Rattle.section.proofs.profile.Each.{All, all-first, all-rest}
+use Rattle.section.proofs.profile.Refusals.Passed.{NumberTaken, taken}
+use Rattle.section.proofs.profile.Replies.{of-reply}
+use Rattle.section.specs.points.Points.{inSection, insideAxisEdge, meridian, pointDistance, pointInside, sphereDistance}
 use Rattle.section.specs.Answers.{pointAnswer, sphereAnswer}
 use Rattle.bodies.specs.declared.shapes.Body.the-variants.{Sphere as Ball}
-use Rattle.verdicts.specs.Verdicts.{bodyVerdict}
+use Rattle.bodies.specs.verdicts.Verdicts.{bodyVerdict}
 use Rattle.arith.specs.Whole.{apart}
 use Rattle.truth.specs.Exact.{origin, place, size, units, unitsOfSum}
 use Rattle.truth.specs.Points.{full, Held, metre, Reach, WithinReach, ε, ε₂}

@@ -10,23 +10,23 @@ use native.Mathlib.Omega.{arith}
 use lib.Dec.{leb→le, ltb, nleb→lt, T}
 use lib.Ieee.{binary64, fin, Float, inf, nan, neg, ofBits, unlike}
 use lib.Ieee.Scale.{finite}
-use Rattle.roots.proofs.Numbers.{decide}
-use Rattle.roots.proofs.Rounding.Key.{finite-of, key, magnitude, mid, unit}
-use Rattle.roots.proofs.Rounding.KeyOrder.{le-key}
-use Rattle.roots.proofs.Rounding.Sum.{neg-key}
+use Rattle.arith.proofs.roots.Numbers.{decide}
+use Rattle.arith.proofs.roots.Rounding.Key.{finite-of, key, magnitude, mid, unit}
+use Rattle.arith.proofs.roots.Rounding.KeyOrder.{le-key}
+use Rattle.arith.proofs.roots.Rounding.Sum.{neg-key}
 use Rattle.arith.specs.F64.{_≺_, _≼_, ∞, e-9, e-12}
 use Rattle.arith.specs.Num.{abs, isFinite}
 use Rattle.arith.proofs.Laws.Hypot.{inf-key}
 use Rattle.arith.proofs.Laws.Sizes.{e-12-finite, finite-number, K, M, Number, zero-key}
-use Rattle.profile.specs.Vertices.{count, edgeAt, endAt, next, vertexAt}
-use Rattle.profile.specs.declared.shapes.Vertex.{Vertex}
-use Rattle.profile.proofs.Nearest.{first-number}
-use Rattle.profile.proofs.Numbers.{infinite}
-use Rattle.profile.proofs.Steps.{any-not, pick, upto-keeps}
-use Rattle.segments.proofs.Held.{closest-held}
-use Rattle.points.specs.Points.{inSection, pointDistance, pointInside, surfaceNear, surfaceStep}
-use Rattle.points.specs.Steps.{noEdge}
-use Rattle.points.proofs.Edges.{closestOn, counts}
+use Rattle.section.specs.profile.Vertices.{count, edgeAt, endAt, next, vertexAt}
+use Rattle.section.specs.declared.profile.shapes.Vertex.{Vertex}
+use Rattle.section.proofs.profile.Nearest.{first-number}
+use Rattle.section.proofs.profile.Numbers.{infinite}
+use Rattle.section.proofs.profile.Steps.{any-not, pick, upto-keeps}
+use Rattle.section.proofs.segments.Held.{closest-held}
+use Rattle.section.specs.points.Points.{inSection, pointDistance, pointInside, surfaceNear, surfaceStep}
+use Rattle.section.specs.points.Steps.{noEdge}
+use Rattle.section.proofs.points.Edges.{closestOn, counts}
 use Rattle.section.specs.Demand.{offAxis}
 use Rattle.section.proofs.Demand.Hits.{next-below}
 use Rattle.truth.specs.Exact.{away², NotOver, place, size, units}

@@ -8,17 +8,17 @@ use native.Mathlib.Omega.{arith}
 use lib.Dec.{ltb, ltb→lt, nltb→le, T}
 use lib.Ieee.{binary64, Float, prec, unlike}
 use lib.Pow.{pow-pos}
-use Rattle.roots.proofs.Numbers.{decide}
-use Rattle.roots.proofs.Rounding.Key.{finiteNumber, number, number-of, unit}
-use Rattle.roots.proofs.Rounding.KeyOrder.{lt-key}
-use Rattle.roots.proofs.Tests.{ltb-iff}
+use Rattle.arith.proofs.roots.Numbers.{decide}
+use Rattle.arith.proofs.roots.Rounding.Key.{finiteNumber, number, number-of, unit}
+use Rattle.arith.proofs.roots.Rounding.KeyOrder.{lt-key}
+use Rattle.arith.proofs.roots.Tests.{ltb-iff}
 use Rattle.arith.specs.F64.{_⊕_, _⊖_, _⊗_, _⊘_, _≺_, _≼_, e-18}
 use Rattle.arith.specs.Num.{abs}
 use Rattle.arith.proofs.Laws.Bounded.{bounded-up}
 use Rattle.arith.proofs.Laws.Quotients.{above, abs-not-e-18, AwayFrom0, below}
 use Rattle.arith.proofs.Laws.Sizes.{Finite, K, M}
-use Rattle.profile.specs.declared.shapes.Vertex.{Vertex}
-use Rattle.points.specs.Points.{crosses}
+use Rattle.section.specs.declared.profile.shapes.Vertex.{Vertex}
+use Rattle.section.specs.points.Points.{crosses}
 use Rattle.arith.specs.Whole.{apart}
 use Rattle.truth.specs.Exact.{away², place, sqd}
 use Rattle.truth.specs.Points.{exact², NeverOver}

@@ -7,8 +7,8 @@ use mathlib.Core.Path.{_≡_, ap, sym}
 use native.Mathlib.Nat.{le-of-lt}
 use native.Mathlib.Omega.{arith}
 use lib.Ieee.{Float, unlike}
-use Rattle.roots.proofs.Numbers.{decide}
-use Rattle.profile.specs.Vertices.{count, endAt, next, vertexAt}
+use Rattle.arith.proofs.roots.Numbers.{decide}
+use Rattle.section.specs.profile.Vertices.{count, endAt, next, vertexAt}
 use Rattle.truth.specs.Exact.{place}
 use Rattle.truth.specs.Solid.{exactCrosses, exactInside}
 use Rattle.truth.proofs.Sides.Meet.{Meets}

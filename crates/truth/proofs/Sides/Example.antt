@@ -10,21 +10,21 @@ use lib.IntN.{pos}
 use Rattle.arith.specs.F64.{_≼_, e-9}
 use Rattle.arith.specs.Num.{isFinite}
 use Rattle.arith.specs.Vector.{vec}
-use Rattle.roots.specs.Roots.{hypot, sqrt}
-use Rattle.profile.specs.Refusals.{anyBelowAxis, anyOf, refusal, sphereNumbers}
-use Rattle.profile.specs.Replies.{value}
-use Rattle.profile.specs.Vertices.{any, ball, hit, upto, vertex, witness}
-use Rattle.profile.specs.declared.shapes.Sphere.{Sphere}
-use Rattle.profile.specs.declared.shapes.Vertex.{Vertex}
-use Rattle.profile.proofs.Each.{All, all-at, cons, nil}
-use Rattle.segments.specs.Segments.{closest, closestPoint}
-use Rattle.points.specs.Points.{crosses, inSection, insideAxisEdge, pointDistance, pointInside, sphereDistance, surfaceNear}
-use Rattle.points.specs.Points.{surfaceStep}
+use Rattle.arith.specs.roots.Roots.{hypot, sqrt}
+use Rattle.section.specs.profile.Refusals.{anyBelowAxis, anyOf, refusal, sphereNumbers}
+use Rattle.section.specs.profile.Replies.{value}
+use Rattle.section.specs.profile.Vertices.{any, ball, hit, upto, vertex, witness}
+use Rattle.section.specs.declared.profile.shapes.Sphere.{Sphere}
+use Rattle.section.specs.declared.profile.shapes.Vertex.{Vertex}
+use Rattle.section.proofs.profile.Each.{All, all-at, cons, nil}
+use Rattle.section.specs.segments.Segments.{closest, closestPoint}
+use Rattle.section.specs.points.Points.{crosses, inSection, insideAxisEdge, pointDistance, pointInside, sphereDistance, surfaceNear}
+use Rattle.section.specs.points.Points.{surfaceStep}
 use Rattle.bodies.specs.declared.shapes.Body.the-variants.{Sphere as Ball}
-use Rattle.builders.specs.Builder.{keep, keptPoints, samePoint, sectionOf}
+use Rattle.section.specs.builders.Builder.{keep, keptPoints, samePoint, sectionOf}
 use Rattle.section.specs.Answers.{pointAnswer}
 use Rattle.section.specs.Demand.{AtMost}
-use Rattle.verdicts.specs.Verdicts.{bodyVerdict}
+use Rattle.bodies.specs.verdicts.Verdicts.{bodyVerdict}
 use Rattle.truth.specs.Exact.{origin, place}
 use Rattle.truth.specs.Points.{full, Held, metre, WithinReach, ε₂}
 use Rattle.truth.specs.Solid.{area, ClearOfSolidInSpace, exactCrosses, exactInside, plain, sound, vertexInside}

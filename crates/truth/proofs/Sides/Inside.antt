@@ -7,15 +7,15 @@ use mathlib.Core.Path.{_≡_, sym, subst, _∙_}
 use native.Mathlib.Nat.{le-of-eq, le-trans, lt-irrefl, lt-of-lt-of-le}
 use lib.Dec.{eqb→eq, T}
 use lib.Ieee.{binary64, eq, Float}
-use Rattle.roots.proofs.Rounding.Key.{finiteNumber, number-of, unit}
-use Rattle.roots.proofs.Rounding.KeyOrder.{eq-key}
+use Rattle.arith.proofs.roots.Rounding.Key.{finiteNumber, number-of, unit}
+use Rattle.arith.proofs.roots.Rounding.KeyOrder.{eq-key}
 use Rattle.arith.specs.F64.{_⊖_, _≼_, 𝟘, e-18}
 use Rattle.arith.specs.Num.{abs}
 use Rattle.arith.proofs.Laws.Sizes.{K, M, zero-finite, zero-key}
-use Rattle.profile.specs.Vertices.{count, endAt, next, vertexAt}
-use Rattle.profile.specs.declared.shapes.Vertex.{Vertex}
-use Rattle.profile.proofs.Steps.{any-not}
-use Rattle.points.specs.Points.{crosses, edgeIsSurface, pointDistance, pointInside}
+use Rattle.section.specs.profile.Vertices.{count, endAt, next, vertexAt}
+use Rattle.section.specs.declared.profile.shapes.Vertex.{Vertex}
+use Rattle.section.proofs.profile.Steps.{any-not}
+use Rattle.section.specs.points.Points.{crosses, edgeIsSurface, pointDistance, pointInside}
 use Rattle.section.proofs.Demand.Hits.{next-below}
 use Rattle.truth.specs.Exact.{origin, place, size}
 use Rattle.truth.specs.Points.{Surface}

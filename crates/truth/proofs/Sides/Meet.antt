@@ -4,7 +4,7 @@ use mathlib.Core.Logic.{inl, inr}
 use mathlib.Core.Path.{_≡_, ap}
 use native.Mathlib.Nat.{le-antisymm, le-of-lt, le-trans, lt-of-lt-of-le, mul-pos}
 use native.Mathlib.Omega.{arith}
-use Rattle.roots.proofs.Numbers.{decide}
+use Rattle.arith.proofs.roots.Numbers.{decide}
 use Rattle.truth.specs.Solid.{area}
 
 -- the edge from a to b has a point on the segment from p to q: the edge's at i / (i + j) is the segment's at k / (i + j)

@@ -10,7 +10,7 @@ use native.Mathlib.Nat.{eq-or-lt-of-le, le-refl}
 use native.Mathlib.Omega.{arith}
 use lib.Dec.{eqb, eqb→eq, eqb-refl, ltb, ltb→lt, nltb→le, T}
 use lib.Ieee.{unlike}
-use Rattle.profile.specs.Vertices.{next, upto}
+use Rattle.section.specs.profile.Vertices.{next, upto}
 use Rattle.truth.specs.Solid.{area, crossesAt, crossing}
 use Rattle.truth.proofs.Sides.Meet.{Meets}
 use Rattle.truth.proofs.Sides.Meet.{between, between-high, between-high', low-between, low-between', low-high, low-high'}

@@ -9,12 +9,12 @@ use native.Mathlib.Omega.{arith}
 use lib.Dec.{T}
 use lib.Ieee.{add, div, Float, Format, low, mul, prec, sub}
 use lib.Pow.{pow-pos}
-use Rattle.roots.proofs.Numbers.{decide}
-use Rattle.roots.proofs.Rounding.Key.{finite-inside, finiteNumber, key, mid, number, unit, unit-pos}
-use Rattle.roots.proofs.Rounding.Product.{negativePart, positivePart}
-use Rattle.roots.proofs.Rounding.Quotient.{div-key, div-key-neg, div-number, div-number-neg}
-use Rattle.roots.proofs.Rounding.RoundKey.{roundKey}
-use Rattle.roots.proofs.Rounding.Sum.{add-number}
+use Rattle.arith.proofs.roots.Numbers.{decide}
+use Rattle.arith.proofs.roots.Rounding.Key.{finite-inside, finiteNumber, key, mid, number, unit, unit-pos}
+use Rattle.arith.proofs.roots.Rounding.Product.{negativePart, positivePart}
+use Rattle.arith.proofs.roots.Rounding.Quotient.{div-key, div-key-neg, div-number, div-number-neg}
+use Rattle.arith.proofs.roots.Rounding.RoundKey.{roundKey}
+use Rattle.arith.proofs.roots.Rounding.Sum.{add-number}
 use Rattle.arith.proofs.Laws.Bounded.{Bounded, mid-lt, overflow}
 use Rattle.arith.proofs.Laws.BoundedValue.{bounded→value, mul-value, sub-value}
 use Rattle.arith.specs.Whole.{apart}

@@ -9,10 +9,10 @@ use native.Mathlib.Nat.{mul-lt-mul-of-pos-left, mul-pos, zero-lt-suc}
 use native.Mathlib.Omega.{arith}
 use lib.Dec.{ltb}
 use lib.Ieee.{Float, unlike}
-use Rattle.roots.proofs.Numbers.{decide}
-use Rattle.roots.proofs.Tests.{ltb-iff}
-use Rattle.profile.specs.Vertices.{count, endAt, upto, vertexAt}
-use Rattle.profile.specs.declared.shapes.Vertex.{Vertex}
+use Rattle.arith.proofs.roots.Numbers.{decide}
+use Rattle.arith.proofs.roots.Tests.{ltb-iff}
+use Rattle.section.specs.profile.Vertices.{count, endAt, upto, vertexAt}
+use Rattle.section.specs.declared.profile.shapes.Vertex.{Vertex}
 use Rattle.arith.specs.Whole.{apart}
 use Rattle.truth.specs.Exact.{away², origin, place, sqd}
 use Rattle.truth.specs.Points.{exact², NeverOver, Surface}

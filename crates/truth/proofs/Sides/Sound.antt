@@ -11,11 +11,11 @@ use native.Mathlib.Omega.{arith}
 use lib.Dec.{eqb, eqb→eq, eqb-refl, leb→le, not-T, T, T-not}
 use lib.Ieee.{binary64, eq, fits, Float, isNan, neg, ofBits, prec}
 use lib.Pow.{pow-add, pow-mono, pow-pos}
-use Rattle.roots.proofs.Numbers.{decide}
-use Rattle.roots.proofs.Rounding.Key.{finiteNumber, key, key-is, magnitude, mid, negative, number, number-of, representable-of}
-use Rattle.roots.proofs.Rounding.Key.{side, unit}
-use Rattle.roots.proofs.Rounding.KeyOrder.{eq-key, key→lt, le→key, lt→key, nlt→key}
-use Rattle.roots.proofs.Rounding.Sum.{neg-key, sub-number}
+use Rattle.arith.proofs.roots.Numbers.{decide}
+use Rattle.arith.proofs.roots.Rounding.Key.{finiteNumber, key, key-is, magnitude, mid, negative, number, number-of, representable-of}
+use Rattle.arith.proofs.roots.Rounding.Key.{side, unit}
+use Rattle.arith.proofs.roots.Rounding.KeyOrder.{eq-key, key→lt, le→key, lt→key, nlt→key}
+use Rattle.arith.proofs.roots.Rounding.Sum.{neg-key, sub-number}
 use Rattle.arith.specs.F64.{_⊖_, _≺_, _≼_, 𝟘, e-9, e-18}
 use Rattle.arith.specs.Num.{abs}
 use Rattle.arith.proofs.Laws.Sizes.{e-9-finite, e-18-finite, finite-number, K, M, zero-finite, zero-key}
@@ -26,12 +26,12 @@ use Rattle.truth.specs.Solid.{plain, plainEdge, sound, soundRadius, ¹�
 use Rattle.arith.proofs.Laws.RoundingError.{Close}
 use Rattle.arith.proofs.Laws.OperationErrors.{apart-most, half, sub-share}
 use Rattle.truth.proofs.Sides.Sight.{ahead, back, down-most, down-share, up-least, up-share}
-use Rattle.profile.specs.Vertices.{any, count, endAt, next, vertexAt}
-use Rattle.profile.specs.declared.shapes.Vertex.{Vertex}
-use Rattle.points.specs.Points.{edgeIsSurface}
+use Rattle.section.specs.profile.Vertices.{any, count, endAt, next, vertexAt}
+use Rattle.section.specs.declared.profile.shapes.Vertex.{Vertex}
+use Rattle.section.specs.points.Points.{edgeIsSurface}
 use Rattle.section.proofs.Demand.Hits.{next-below}
 use Rattle.truth.proofs.Points.Closest.{Within}
-use Rattle.profile.proofs.Steps.{any-found, any-not, pick}
+use Rattle.section.proofs.profile.Steps.{any-found, any-not, pick}
 
 -- a key not below that of 2 ^ -7 is zero's and a multiple of 2 ^ 1015
 record Grid (x : Float) : Type 0 where

@@ -4,8 +4,8 @@ use mathlib.Core.List.{List}
 use lib.Ieee.{binary64, Float, prec}
 use Rattle.arith.specs.declared.vector.Vec3.{Vec3}
 use Rattle.arith.proofs.Laws.Bounded.{Bounded}
-use Rattle.profile.specs.Vertices.{endAt, vertexAt}
-use Rattle.points.specs.Points.{meridian}
+use Rattle.section.specs.profile.Vertices.{endAt, vertexAt}
+use Rattle.section.specs.points.Points.{meridian}
 use Rattle.truth.specs.Solid.{ClearOfSolid, ClearOfSolidInSpace}
 use Rattle.truth.proofs.Places.{not-over-less}
 use Rattle.truth.proofs.Points.Closest.{Fine}

@@ -8,14 +8,14 @@ use mathlib.Core.Path.{_≡_, refl, subst, sym}
 use native.Mathlib.Omega.{arith}
 use lib.Dec.{T}
 use lib.Ieee.{binary64, Float, prec}
-use Rattle.roots.proofs.Rounding.Key.{number, unit}
+use Rattle.arith.proofs.roots.Rounding.Key.{number, unit}
 use Rattle.arith.specs.F64.{_⊕_, _≺_, e-9}
 use Rattle.arith.proofs.Laws.Bounded.{Bounded, overflow}
 use Rattle.arith.proofs.Laws.Sizes.{K, M}
-use Rattle.profile.specs.Vertices.{count, vertexAt}
-use Rattle.profile.specs.declared.shapes.Sphere.{Sphere}
-use Rattle.profile.specs.declared.shapes.Vertex.{Vertex}
-use Rattle.points.specs.Points.{meridian, pointDistance, sphereDistance}
+use Rattle.section.specs.profile.Vertices.{count, vertexAt}
+use Rattle.section.specs.declared.profile.shapes.Sphere.{Sphere}
+use Rattle.section.specs.declared.profile.shapes.Vertex.{Vertex}
+use Rattle.section.specs.points.Points.{meridian, pointDistance, sphereDistance}
 use Rattle.section.specs.Demand.{offAxis}
 use Rattle.truth.specs.Exact.{origin, place, units, unitsOfSum}
 use Rattle.truth.specs.Solid.{ClearOfSolid, plain}

@@ -10,20 +10,20 @@ use lib.Ieee.{binary64, fin, fits, Float, inf, le, nan, ofBits}
 use lib.Ieee.Fits.{and-i}
 use lib.ListN.{getD, length}
 use lib.Ieee.Scale.{finite}
-use Rattle.roots.proofs.Rounding.KeyOrder.{nlt→key}
+use Rattle.arith.proofs.roots.Rounding.KeyOrder.{nlt→key}
 use Rattle.arith.specs.F64.{_≼_, 𝟘, 𝟙, e-9}
 use Rattle.arith.proofs.Laws.Sizes.{finite-number, Given, held-finite, zero-key, zero-number}
-use Rattle.profile.specs.Refusals.{refusal}
-use Rattle.profile.specs.Replies.{OfValue}
-use Rattle.profile.proofs.Replies.{of-reply}
-use Rattle.settings.specs.Settings.{settingsTests}
-use Rattle.settings.specs.declared.shapes.Settings.{Settings}
-use Rattle.settings.proofs.Taken.{SettingsTaken}
-use Rattle.bands.specs.declared.shapes.Cylinder.{Cylinder}
-use Rattle.bands.proofs.Limit.{CylinderInLimit}
+use Rattle.section.specs.profile.Refusals.{refusal}
+use Rattle.section.specs.profile.Replies.{OfValue}
+use Rattle.section.proofs.profile.Replies.{of-reply}
+use Rattle.walk.specs.settings.Settings.{settingsTests}
+use Rattle.walk.specs.declared.settings.shapes.Settings.{Settings}
+use Rattle.walk.proofs.settings.Taken.{SettingsTaken}
+use Rattle.walk.specs.declared.bands.shapes.Cylinder.{Cylinder}
+use Rattle.walk.proofs.bands.Limit.{CylinderInLimit}
 use Rattle.walk.proofs.Cover.Depth.{Tolerance}
-use Rattle.cylinders.specs.Cylinders.{cylinderAnswer, cylinderDistance, cylinderNumbers, cylinderTests}
-use Rattle.cylinders.proofs.Cover.Accepted.{accepted, settings-accepted}
+use Rattle.walk.specs.cylinders.Cylinders.{cylinderAnswer, cylinderDistance, cylinderNumbers, cylinderTests}
+use Rattle.walk.proofs.cylinders.Cover.Accepted.{accepted, settings-accepted}
 use Rattle.bodies.specs.Bodies.{bodyAnswer}
 use Rattle.bodies.specs.declared.shapes.Body.the-variants.{Cylinder as Bar}
 use Rattle.truth.specs.Points.{full, Held, metre, Reach, WithinReach}

@@ -9,31 +9,31 @@ use native.Mathlib.Omega.{arith}
 use lib.Dec.{lit≤, not-T, T}
 use lib.Ieee.{binary64, fits, Float, ofBits, prec}
 use lib.Pow.{pow-add, pow-pos}
-use Rattle.roots.proofs.Rounding.Key.{finiteNumber, key, magnitude, mid, number-of, unit}
-use Rattle.roots.proofs.Rounding.KeyOrder.{lt→key}
+use Rattle.arith.proofs.roots.Rounding.Key.{finiteNumber, key, magnitude, mid, number-of, unit}
+use Rattle.arith.proofs.roots.Rounding.KeyOrder.{lt→key}
 use Rattle.arith.specs.F64.{_⊖_, _≺_, _≼_, 𝟘, ½, e-15}
 use Rattle.arith.proofs.Laws.Bounded.{bounded-up, overflow}
 use Rattle.arith.proofs.Laws.BoundedValue.{add-value, bounded→value, BoundedValue, mul-value}
 use Rattle.arith.proofs.Laws.Sizes.{Given, K, M, max-keeps, min-keeps, zero-key, zero-number}
-use Rattle.profile.proofs.Steps.{pick}
-use Rattle.boxes.specs.Boxes.{boxDistance}
+use Rattle.section.proofs.profile.Steps.{pick}
+use Rattle.section.specs.boxes.Boxes.{boxDistance}
 use Rattle.section.proofs.Demand.Hits.{VerticesAtMost}
-use Rattle.settings.specs.declared.shapes.Settings.{Settings}
-use Rattle.bands.specs.Axis.{axis}
-use Rattle.bands.specs.Band.{bandOf, exchanged, mean}
-use Rattle.bands.specs.declared.shapes.Axis.{Axis}
-use Rattle.bands.specs.declared.shapes.Axis.the-variants.{Axial, AlongX, AlongY, Neither}
-use Rattle.bands.specs.declared.shapes.Cylinder.{Cylinder}
-use Rattle.bands.specs.declared.shapes.RadialBand.{RadialBand}
-use Rattle.bands.proofs.Limit.{bandOf-in-limit, CylinderInLimit, InLimit}
-use Rattle.pieces.specs.Pieces.{pieceBox, variation}
-use Rattle.pieces.specs.declared.shapes.Piece.{Piece}
+use Rattle.walk.specs.declared.settings.shapes.Settings.{Settings}
+use Rattle.walk.specs.bands.Axis.{axis}
+use Rattle.walk.specs.bands.Band.{bandOf, exchanged, mean}
+use Rattle.walk.specs.declared.bands.shapes.Axis.{Axis}
+use Rattle.walk.specs.declared.bands.shapes.Axis.the-variants.{Axial, AlongX, AlongY, Neither}
+use Rattle.walk.specs.declared.bands.shapes.Cylinder.{Cylinder}
+use Rattle.walk.specs.declared.bands.shapes.RadialBand.{RadialBand}
+use Rattle.walk.proofs.bands.Limit.{bandOf-in-limit, CylinderInLimit, InLimit}
+use Rattle.walk.specs.pieces.Pieces.{pieceBox, variation}
+use Rattle.walk.specs.declared.pieces.shapes.Piece.{Piece}
 use Rattle.walk.specs.Walk.{bandDistance, reported, thinBox, Walk, walkAll, walked}
 use Rattle.walk.specs.declared.shapes.CountedHit.{CountedHit}
 use Rattle.walk.proofs.Cover.Covers.{Coverable}
 use Rattle.walk.proofs.Cover.Depth.{Tolerance}
-use Rattle.cylinders.specs.Cylinders.{cylinderDistance}
-use Rattle.cylinders.specs.Promised.{acrossSpindle}
+use Rattle.walk.specs.cylinders.Cylinders.{cylinderDistance}
+use Rattle.walk.specs.cylinders.Promised.{acrossSpindle}
 use Rattle.arith.specs.Whole.{apart}
 use Rattle.truth.specs.Exact.{origin, size, sqd, units}
 use Rattle.truth.specs.Points.{full, metre, Reach}

@@ -8,8 +8,8 @@ use lib.Ieee.{binary64, Float}
 use lib.Pow.{pow-mono}
 use Rattle.arith.proofs.Laws.Bounded.{bounded-up}
 use Rattle.arith.proofs.Laws.Sizes.{Finite}
-use Rattle.profile.specs.declared.shapes.Aabb.{Aabb}
-use Rattle.boxes.specs.Boxes.{boxDistance}
+use Rattle.section.specs.declared.profile.shapes.Aabb.{Aabb}
+use Rattle.section.specs.boxes.Boxes.{boxDistance}
 use Rattle.section.proofs.Demand.Bounds.{finite-atMost}
 use Rattle.section.proofs.Demand.Boxes.{box-atMost}
 use Rattle.section.proofs.Demand.Hits.{BoxAtMost, VerticesAtMost}

@@ -6,17 +6,17 @@ use mathlib.Core.Path.{_≡_, ap, refl, subst, sym}
 use native.Mathlib.Nat.{le-of-eq, le-of-lt, le-trans, mul-le-mul, mul-le-mul-left, mul-sub}
 use native.Mathlib.Omega.{arith}
 use lib.Ieee.{binary64, Float, prec}
-use Rattle.roots.proofs.Root.Sticky.{wholeRoot, wholeRoot-is}
+use Rattle.arith.proofs.roots.Root.Sticky.{wholeRoot, wholeRoot-is}
 use Rattle.arith.proofs.Laws.Bounded.{Bounded, bounded-up}
 use Rattle.arith.proofs.Laws.Sizes.{K, M, max-keeps, min-keeps}
-use Rattle.profile.specs.declared.shapes.Aabb.{Aabb}
-use Rattle.boxes.specs.Boxes.{boxDistance}
-use Rattle.bands.specs.Band.{halfWidth, spanAt}
-use Rattle.bands.specs.declared.shapes.RadialBand.{RadialBand}
-use Rattle.bands.proofs.Limit.{InLimit}
-use Rattle.bands.proofs.Spans.{span-order}
-use Rattle.pieces.specs.Pieces.{boxHit, narrowest, pieceBox, widest}
-use Rattle.pieces.specs.declared.shapes.Piece.{Piece}
+use Rattle.section.specs.declared.profile.shapes.Aabb.{Aabb}
+use Rattle.section.specs.boxes.Boxes.{boxDistance}
+use Rattle.walk.specs.bands.Band.{halfWidth, spanAt}
+use Rattle.walk.specs.declared.bands.shapes.RadialBand.{RadialBand}
+use Rattle.walk.proofs.bands.Limit.{InLimit}
+use Rattle.walk.proofs.bands.Spans.{span-order}
+use Rattle.walk.specs.pieces.Pieces.{boxHit, narrowest, pieceBox, widest}
+use Rattle.walk.specs.declared.pieces.shapes.Piece.{Piece}
 use Rattle.arith.specs.Whole.{apart}
 use Rattle.truth.specs.Exact.{Turned, units}
 use Rattle.truth.specs.Boxes.{BoxTrue, BoxWithin, InBox, Within}

@@ -3,12 +3,12 @@
 use mathlib.Core.Bool.{true}
 use mathlib.Core.Path.{_≡_, refl}
 use lib.Ieee.{add, binary64, le, lt, mul, ofBits, sub}
-use Rattle.roots.specs.Roots.{hypot, root, sqrt}
+use Rattle.arith.specs.roots.Roots.{hypot, root, sqrt}
 use Rattle.arith.specs.F64.{_⊖_, _≺_, _≼_, e-9}
-use Rattle.bands.specs.Band.{halfWidth, spanAt}
-use Rattle.bands.specs.declared.shapes.RadialBand.{RadialBand}
-use Rattle.pieces.specs.Pieces.{narrowest, piece, variation, widest}
-use Rattle.pieces.specs.declared.shapes.Piece.{Piece}
+use Rattle.walk.specs.bands.Band.{halfWidth, spanAt}
+use Rattle.walk.specs.declared.bands.shapes.RadialBand.{RadialBand}
+use Rattle.walk.specs.pieces.Pieces.{narrowest, piece, variation, widest}
+use Rattle.walk.specs.declared.pieces.shapes.Piece.{Piece}
 
 abbrev band : RadialBand
 band = record {

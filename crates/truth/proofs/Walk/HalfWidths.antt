@@ -9,10 +9,10 @@ use native.Mathlib.Omega.{arith}
 use lib.Dec.{T}
 use lib.Ieee.{binary64, Float, low, prec}
 use lib.Pow.{pow-mono, pow-add}
-use Rattle.roots.specs.Roots.{sqrt}
-use Rattle.roots.proofs.Numbers.{decide}
-use Rattle.roots.proofs.Rounding.Key.{finiteNumber, number-of, unit, unit-pos}
-use Rattle.roots.proofs.Rounding.KeyOrder.{le→key}
+use Rattle.arith.specs.roots.Roots.{sqrt}
+use Rattle.arith.proofs.roots.Numbers.{decide}
+use Rattle.arith.proofs.roots.Rounding.Key.{finiteNumber, number-of, unit, unit-pos}
+use Rattle.arith.proofs.roots.Rounding.KeyOrder.{le→key}
 use Rattle.arith.specs.F64.{_⊖_, _⊗_, _≼_, 𝟘, e-15}
 use Rattle.arith.proofs.Laws.Bounded.{Bounded, bounded-up, mid-lt, overflow}
 use Rattle.arith.proofs.Laws.BoundedValue.{bounded→value, mul-value, sub-value}
@@ -23,9 +23,9 @@ use Rattle.arith.proofs.Laws.Monotone.{keySize, square-key, square-key-mono, sq
 use Rattle.arith.proofs.Laws.Order.{nle→key}
 use Rattle.arith.proofs.Laws.RootBounded.{sqrt-bounded}
 use Rattle.arith.proofs.Laws.Sizes.{K, M, zero-finite, zero-key, zero-number}
-use Rattle.profile.proofs.Steps.{pick}
-use Rattle.bands.specs.Band.{halfWidth}
-use Rattle.bands.specs.declared.shapes.RadialBand.{RadialBand}
+use Rattle.section.proofs.profile.Steps.{pick}
+use Rattle.walk.specs.bands.Band.{halfWidth}
+use Rattle.walk.specs.declared.bands.shapes.RadialBand.{RadialBand}
 use Rattle.arith.specs.Whole.{apart}
 use Rattle.arith.proofs.Laws.RoundingError.{Close, roundKey-close}
 use Rattle.arith.proofs.Laws.OperationErrors.{half, root-close, sub-close}

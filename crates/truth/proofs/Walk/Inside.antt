@@ -7,15 +7,15 @@ use native.Mathlib.Nat.{le-of-eq, le-of-lt, le-of-mul-le-mul-left, le-trans, mul
 use native.Mathlib.Nat.{mul-sub}
 use native.Mathlib.Omega.{arith}
 use lib.Ieee.{binary64, Float, prec}
-use Rattle.roots.specs.Roots.{hypot}
-use Rattle.roots.proofs.Numbers.{decide}
-use Rattle.roots.proofs.Rounding.Key.{unit}
+use Rattle.arith.specs.roots.Roots.{hypot}
+use Rattle.arith.proofs.roots.Numbers.{decide}
+use Rattle.arith.proofs.roots.Rounding.Key.{unit}
 use Rattle.arith.specs.F64.{_⊕_, _⊖_}
 use Rattle.arith.proofs.Laws.Bounded.{Bounded}
 use Rattle.arith.proofs.Laws.Monotone.{keySize}
 use Rattle.arith.proofs.Laws.Sizes.{K, M}
-use Rattle.bands.specs.Band.{closestToZero, halfWidth, spanAt}
-use Rattle.bands.specs.declared.shapes.RadialBand.{RadialBand}
+use Rattle.walk.specs.bands.Band.{closestToZero, halfWidth, spanAt}
+use Rattle.walk.specs.declared.bands.shapes.RadialBand.{RadialBand}
 use Rattle.arith.specs.Whole.{apart}
 use Rattle.truth.specs.Exact.{sqd}
 use Rattle.truth.proofs.Points.Coordinate.{power}

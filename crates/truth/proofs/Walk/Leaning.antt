@@ -9,8 +9,8 @@ use native.Mathlib.Omega.{arith}
 use lib.Dec.{T}
 use lib.Ieee.{binary64, Float, ofBits, prec}
 use lib.Pow.{pow-pos}
-use Rattle.roots.specs.Roots.{hypot}
-use Rattle.roots.proofs.Rounding.Key.{finiteNumber}
+use Rattle.arith.specs.roots.Roots.{hypot}
+use Rattle.arith.proofs.roots.Rounding.Key.{finiteNumber}
 use Rattle.arith.specs.F64.{_⊕_, _⊖_, _⊗_, ½}
 use Rattle.arith.specs.Num.{max as maxOf, min as minOf}
 use Rattle.arith.proofs.Laws.Bounded.{Bounded, bounded-up, mid-lt, overflow}
@@ -18,8 +18,8 @@ use Rattle.arith.proofs.Laws.BoundedValue.{add-value, bounded→value, sub-valu
 use Rattle.arith.proofs.Laws.Middle.{half as oneHalf, half-is, half-near, IsHalf}
 use Rattle.arith.proofs.Laws.SizedOrder.{half-not-negative, hypot-not-negative, max-finite-key, min-finite-key}
 use Rattle.arith.proofs.Laws.Sizes.{Finite, finite-given, half-finite, hypot-finite, K, M, sub-finite}
-use Rattle.bands.specs.Band.{bandOf, mean}
-use Rattle.bands.specs.declared.shapes.Cylinder.{Cylinder}
+use Rattle.walk.specs.bands.Band.{bandOf, mean}
+use Rattle.walk.specs.declared.bands.shapes.Cylinder.{Cylinder}
 use Rattle.arith.specs.Whole.{apart}
 use Rattle.truth.specs.Exact.{origin, place, size, sqd, units}
 use Rattle.truth.specs.Boxes.{Within}

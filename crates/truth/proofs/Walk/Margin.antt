@@ -7,22 +7,22 @@ use native.Mathlib.Nat.{le-of-eq, le-of-lt, le-refl, le-trans, mul-le-mul, mul-l
 use native.Mathlib.Omega.{arith}
 use lib.Dec.{T}
 use lib.Ieee.{binary64, Float, prec}
-use Rattle.roots.proofs.Numbers.{decide}
-use Rattle.roots.proofs.Rounding.Key.{finiteNumber, number, number-of, unit}
-use Rattle.roots.proofs.Rounding.KeyOrder.{le→key}
-use Rattle.roots.proofs.Rounding.Sum.{sub-number}
+use Rattle.arith.proofs.roots.Numbers.{decide}
+use Rattle.arith.proofs.roots.Rounding.Key.{finiteNumber, number, number-of, unit}
+use Rattle.arith.proofs.roots.Rounding.KeyOrder.{le→key}
+use Rattle.arith.proofs.roots.Rounding.Sum.{sub-number}
 use Rattle.arith.specs.F64.{_⊖_, _≺_, _≼_, 𝟘}
 use Rattle.arith.specs.Num.{clamp, max, min}
 use Rattle.arith.proofs.Laws.Bounded.{Bounded, bounded-up, mid-lt, overflow}
 use Rattle.arith.proofs.Laws.Order.{clamp-key, max-key, min-key}
 use Rattle.arith.proofs.Laws.Sizes.{cond-keeps, Finite, K, M, max-keeps, min-keeps, zero-key, zero-number}
-use Rattle.bands.specs.Band.{halfWidth, spanAt}
-use Rattle.bands.specs.declared.shapes.RadialBand.{RadialBand}
-use Rattle.bands.proofs.HalfWidth.{LiesBetween, nearer-is-wider}
-use Rattle.bands.proofs.Limit.{InLimit}
-use Rattle.bands.proofs.Spans.{span-nested}
-use Rattle.pieces.specs.Pieces.{narrowest, variation, widest}
-use Rattle.pieces.specs.declared.shapes.Piece.{Piece}
+use Rattle.walk.specs.bands.Band.{halfWidth, spanAt}
+use Rattle.walk.specs.declared.bands.shapes.RadialBand.{RadialBand}
+use Rattle.walk.proofs.bands.HalfWidth.{LiesBetween, nearer-is-wider}
+use Rattle.walk.proofs.bands.Limit.{InLimit}
+use Rattle.walk.proofs.bands.Spans.{span-nested}
+use Rattle.walk.specs.pieces.Pieces.{narrowest, variation, widest}
+use Rattle.walk.specs.declared.pieces.shapes.Piece.{Piece}
 use Rattle.arith.specs.Whole.{apart}
 use Rattle.arith.proofs.Laws.RoundingError.{Close}
 use Rattle.arith.proofs.Laws.OperationErrors.{apart-most, apart-over, apart-under, half, sub-close}

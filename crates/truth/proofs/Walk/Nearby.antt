@@ -6,8 +6,8 @@ use mathlib.Core.Logic.{inl, inr}
 use mathlib.Core.Path.{_≡_, ap, ap₂, refl, sym, _∙_}
 use native.Mathlib.Nat.{le-of-eq, le-of-lt, le-refl, le-trans, mul-le-mul, mul-le-mul-left, mul-le-mul-right, mul-sub}
 use native.Mathlib.Omega.{arith}
-use Rattle.roots.proofs.Numbers.{decide}
-use Rattle.roots.proofs.Root.Sticky.{wholeRoot, wholeRoot-is}
+use Rattle.arith.proofs.roots.Numbers.{decide}
+use Rattle.arith.proofs.roots.Root.Sticky.{wholeRoot, wholeRoot-is}
 use Rattle.arith.specs.Whole.{apart}
 use Rattle.truth.specs.Exact.{sqd}
 use Rattle.arith.proofs.Laws.RoundingError.{Close}

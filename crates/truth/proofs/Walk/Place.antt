@@ -9,9 +9,9 @@ use native.Mathlib.Omega.{arith}
 use lib.Dec.{T}
 use lib.Ieee.{binary64, fits, Float, prec, round}
 use lib.Ieee.Fits.{and-l}
-use Rattle.roots.proofs.Numbers.{decide}
-use Rattle.roots.proofs.Rounding.Key.{number, number-of, unit, unit-pos}
-use Rattle.roots.proofs.Rounding.RoundKey.{round-number, round-roundKey, roundKey}
+use Rattle.arith.proofs.roots.Numbers.{decide}
+use Rattle.arith.proofs.roots.Rounding.Key.{number, number-of, unit, unit-pos}
+use Rattle.arith.proofs.roots.Rounding.RoundKey.{round-number, round-roundKey, roundKey}
 use Rattle.arith.specs.F64.{_≺_}
 use Rattle.arith.specs.Num.{clamp}
 use Rattle.arith.proofs.Laws.Bounded.{between-bounded, Bounded, mid-lt, overflow}
@@ -19,8 +19,8 @@ use Rattle.arith.proofs.Laws.BoundedValue.{add-value, bounded→value, sub-valu
 use Rattle.arith.proofs.Laws.Exact.{add-ge, sub-le}
 use Rattle.arith.proofs.Laws.Order.{clamp-key}
 use Rattle.arith.proofs.Laws.Sizes.{cond-keeps, K, M}
-use Rattle.bands.specs.declared.shapes.RadialBand.{RadialBand}
-use Rattle.pieces.specs.Pieces.{wholeWidth}
+use Rattle.walk.specs.declared.bands.shapes.RadialBand.{RadialBand}
+use Rattle.walk.specs.pieces.Pieces.{wholeWidth}
 use Rattle.arith.specs.Whole.{apart}
 use Rattle.arith.proofs.Laws.RoundingError.{Close, roundKey-close}
 use Rattle.arith.proofs.Laws.OperationErrors.{add-close, apart-over, apart-under, sub-close}

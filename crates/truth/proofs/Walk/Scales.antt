@@ -7,11 +7,11 @@ use lib.Dec.{lit≤, lit<}
 use lib.Ieee.{binary64, fits, Float, ofBits}
 use lib.Ieee.Scale.{finite}
 use lib.Ieee.Fits.{and-i, and-l}
-use Rattle.roots.proofs.Rounding.Key.{finite-of, key, magnitude, mid, unit}
+use Rattle.arith.proofs.roots.Rounding.Key.{finite-of, key, magnitude, mid, unit}
 use Rattle.arith.proofs.Laws.Bounded.{Bounded}
 use Rattle.arith.proofs.Laws.Monotone.{keySize}
 use Rattle.arith.proofs.Laws.Sizes.{K, M}
-use Rattle.bands.specs.declared.shapes.RadialBand.{RadialBand}
+use Rattle.walk.specs.declared.bands.shapes.RadialBand.{RadialBand}
 use Rattle.arith.specs.Whole.{apart}
 use Rattle.truth.specs.Exact.{size}
 use Rattle.truth.specs.Boxes.{Within}

@@ -8,12 +8,12 @@ use native.Mathlib.Omega.{arith}
 use lib.Ieee.{binary64, Float, prec}
 use Rattle.arith.proofs.Laws.Bounded.{between-bounded, bounded-up, overflow}
 use Rattle.arith.proofs.Laws.Sizes.{finite-number}
-use Rattle.profile.proofs.Each.{All, cons, nil}
-use Rattle.profile.proofs.Steps.{pick}
-use Rattle.bands.specs.Band.{mean}
-use Rattle.bands.specs.declared.shapes.RadialBand.{RadialBand}
-use Rattle.pieces.specs.Pieces.{boxHit, halves, variation, wholeWidth}
-use Rattle.pieces.specs.declared.shapes.Piece.{Piece}
+use Rattle.section.proofs.profile.Each.{All, cons, nil}
+use Rattle.section.proofs.profile.Steps.{pick}
+use Rattle.walk.specs.bands.Band.{mean}
+use Rattle.walk.specs.declared.bands.shapes.RadialBand.{RadialBand}
+use Rattle.walk.specs.pieces.Pieces.{boxHit, halves, variation, wholeWidth}
+use Rattle.walk.specs.declared.pieces.shapes.Piece.{Piece}
 use Rattle.walk.specs.Walk.{halved, measured, sampled, start, waiting, Walk, walk, walkAll}
 use Rattle.walk.proofs.Demand.Pieces.{halve-sound, Sound}
 use Rattle.truth.proofs.Walk.HalfWidths.{BandSized, Scaled}

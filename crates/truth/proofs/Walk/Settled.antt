@@ -6,15 +6,15 @@ use mathlib.Core.List.{List}
 use mathlib.Core.Path.{_≡_}
 use lib.Dec.{T}
 use lib.Ieee.{binary64, Float, prec}
-use Rattle.roots.proofs.Rounding.Key.{number, number-of}
-use Rattle.roots.proofs.Rounding.KeyOrder.{key→le, le→key}
+use Rattle.arith.proofs.roots.Rounding.Key.{number, number-of}
+use Rattle.arith.proofs.roots.Rounding.KeyOrder.{key→le, le→key}
 use Rattle.arith.specs.F64.{_≼_}
 use Rattle.arith.proofs.Laws.Bounded.{Bounded}
-use Rattle.bands.specs.Band.{halfWidth, spanAt}
-use Rattle.bands.specs.declared.shapes.RadialBand.{RadialBand}
-use Rattle.bands.proofs.Limit.{InLimit}
-use Rattle.pieces.specs.Pieces.{pieceBox, wholeWidth}
-use Rattle.pieces.specs.declared.shapes.Piece.{Piece}
+use Rattle.walk.specs.bands.Band.{halfWidth, spanAt}
+use Rattle.walk.specs.declared.bands.shapes.RadialBand.{RadialBand}
+use Rattle.walk.proofs.bands.Limit.{InLimit}
+use Rattle.walk.specs.pieces.Pieces.{pieceBox, wholeWidth}
+use Rattle.walk.specs.declared.pieces.shapes.Piece.{Piece}
 use Rattle.walk.specs.Walk.{Walk, walkAll}
 use Rattle.walk.proofs.Cover.Covers.{Coverable, covers}
 use Rattle.arith.proofs.Laws.OperationErrors.{half}

@@ -7,9 +7,9 @@ use native.Mathlib.Omega.{arith}
 use lib.Dec.{T}
 use lib.Ieee.{binary64, Float, prec}
 use lib.Pow.{pow-mono}
-use Rattle.roots.specs.Roots.{hypot}
-use Rattle.roots.proofs.Rounding.Key.{finiteNumber, number-of}
-use Rattle.roots.proofs.Rounding.KeyOrder.{lt→key, nlt→key}
+use Rattle.arith.specs.roots.Roots.{hypot}
+use Rattle.arith.proofs.roots.Rounding.Key.{finiteNumber, number-of}
+use Rattle.arith.proofs.roots.Rounding.KeyOrder.{lt→key, nlt→key}
 use Rattle.arith.specs.F64.{_⊕_, _⊖_, _≺_, 𝟘}
 use Rattle.arith.specs.Num.{max}
 use Rattle.arith.proofs.Laws.Bounded.{Bounded, bounded-up, mid-lt, overflow}
@@ -19,8 +19,8 @@ use Rattle.arith.proofs.Laws.HypotKey.{hypot-is, root-not-negative}
 use Rattle.arith.proofs.Laws.Monotone.{keySize}
 use Rattle.arith.proofs.Laws.Order.{max-key}
 use Rattle.arith.proofs.Laws.Sizes.{cond-keeps, K, M, max-keeps, zero-finite, zero-key, zero-number}
-use Rattle.bands.specs.Band.{closestToZero, spanAt}
-use Rattle.bands.specs.declared.shapes.RadialBand.{RadialBand}
+use Rattle.walk.specs.bands.Band.{closestToZero, spanAt}
+use Rattle.walk.specs.declared.bands.shapes.RadialBand.{RadialBand}
 use Rattle.arith.specs.Whole.{apart}
 use Rattle.arith.proofs.Laws.RoundingError.{Close}
 use Rattle.arith.proofs.Laws.OperationErrors.{add-close, apart-most, hypot-close, RootClose, sub-close}

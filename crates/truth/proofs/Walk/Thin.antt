@@ -6,16 +6,16 @@ use native.Mathlib.Nat.{le-of-eq, le-refl, le-trans, mul-le-mul-left}
 use native.Mathlib.Omega.{arith}
 use lib.Dec.{T}
 use lib.Ieee.{binary64, Float, fits, ofBits, prec}
-use Rattle.roots.proofs.Rounding.Key.{finiteNumber, number-of}
-use Rattle.roots.proofs.Rounding.KeyOrder.{le→key}
+use Rattle.arith.proofs.roots.Rounding.Key.{finiteNumber, number-of}
+use Rattle.arith.proofs.roots.Rounding.KeyOrder.{le→key}
 use Rattle.arith.specs.F64.{_≼_, 𝟘, e-15}
 use Rattle.arith.proofs.Laws.Bounded.{bounded-up}
 use Rattle.arith.proofs.Laws.Sizes.{K, M, zero-finite, zero-key}
-use Rattle.bands.specs.Band.{spanAt}
-use Rattle.bands.specs.declared.shapes.RadialBand.{RadialBand}
-use Rattle.bands.proofs.Limit.{InLimit}
-use Rattle.bands.proofs.Spans.{span-order}
-use Rattle.boxes.specs.Boxes.{boxDistance}
+use Rattle.walk.specs.bands.Band.{spanAt}
+use Rattle.walk.specs.declared.bands.shapes.RadialBand.{RadialBand}
+use Rattle.walk.proofs.bands.Limit.{InLimit}
+use Rattle.walk.proofs.bands.Spans.{span-order}
+use Rattle.section.specs.boxes.Boxes.{boxDistance}
 use Rattle.walk.specs.Walk.{thinBox}
 use Rattle.arith.specs.Whole.{apart}
 use Rattle.truth.specs.Exact.{Turned, units}

@@ -11,35 +11,35 @@ use native.Mathlib.Nat.{le-refl, le-trans, mul-le-mul, mul-le-mul-left}
 use native.Mathlib.Omega.{arith}
 use lib.Dec.{lit≤, T}
 use lib.Ieee.{binary64, fits, Float, ofBits}
-use Rattle.roots.proofs.Rounding.Key.{key, magnitude, mid, unit}
-use Rattle.roots.proofs.Rounding.KeyOrder.{nlt→key}
-use Rattle.roots.proofs.Numbers.{decide}
+use Rattle.arith.proofs.roots.Rounding.Key.{key, magnitude, mid, unit}
+use Rattle.arith.proofs.roots.Rounding.KeyOrder.{nlt→key}
+use Rattle.arith.proofs.roots.Numbers.{decide}
 use Rattle.arith.specs.F64.{_⊕_, _⊖_, _⊗_, ½, e-9}
 use Rattle.arith.proofs.Laws.Sizes.{add-finite, e-9-finite, Finite, finite-number, held-finite, K, M, sub-finite}
-use Rattle.profile.specs.Refusals.{axisTests, refusal}
-use Rattle.profile.specs.Replies.{OfValue, value}
-use Rattle.profile.proofs.Each.{All, all-rest, cons, nil}
-use Rattle.profile.proofs.Refusals.Passed.{NumberTaken, taken}
-use Rattle.profile.proofs.Replies.{of-reply}
+use Rattle.section.specs.profile.Refusals.{axisTests, refusal}
+use Rattle.section.specs.profile.Replies.{OfValue, value}
+use Rattle.section.proofs.profile.Each.{All, all-rest, cons, nil}
+use Rattle.section.proofs.profile.Refusals.Passed.{NumberTaken, taken}
+use Rattle.section.proofs.profile.Replies.{of-reply}
 use Rattle.section.proofs.Demand.Accepted.{taken-atMost}
 use Rattle.section.proofs.Demand.AtMost.{atMost-given}
-use Rattle.settings.specs.Settings.{finest}
-use Rattle.settings.proofs.Taken.{finest-taken, settings-taken, SettingsTaken}
-use Rattle.bands.specs.Axis.{axis}
-use Rattle.bands.specs.Band.{bandOf, exchanged}
-use Rattle.bands.specs.declared.shapes.Axis.{Axis}
-use Rattle.bands.specs.declared.shapes.Axis.the-variants.{Axial, AlongX, AlongY, Neither}
-use Rattle.bands.specs.declared.shapes.Cylinder.{Cylinder}
+use Rattle.walk.specs.settings.Settings.{finest}
+use Rattle.walk.proofs.settings.Taken.{finest-taken, settings-taken, SettingsTaken}
+use Rattle.walk.specs.bands.Axis.{axis}
+use Rattle.walk.specs.bands.Band.{bandOf, exchanged}
+use Rattle.walk.specs.declared.bands.shapes.Axis.{Axis}
+use Rattle.walk.specs.declared.bands.shapes.Axis.the-variants.{Axial, AlongX, AlongY, Neither}
+use Rattle.walk.specs.declared.bands.shapes.Cylinder.{Cylinder}
 use Rattle.walk.specs.declared.shapes.CountedHit.{CountedHit}
-use Rattle.cylinders.specs.Cylinders.{cylinderDistance, cylinderNumbers, cylinderOwn, cylinderTests}
-use Rattle.cylinders.specs.Promised.{acrossSpindle}
-use Rattle.cylinders.proofs.Cover.Accepted.{Accepted, accepted}
-use Rattle.cylinders.proofs.Demand.Cylinders.{cylinder-atMost}
+use Rattle.walk.specs.cylinders.Cylinders.{cylinderDistance, cylinderNumbers, cylinderOwn, cylinderTests}
+use Rattle.walk.specs.cylinders.Promised.{acrossSpindle}
+use Rattle.walk.proofs.cylinders.Cover.Accepted.{Accepted, accepted}
+use Rattle.walk.proofs.cylinders.Demand.Cylinders.{cylinder-atMost}
 use Rattle.bodies.specs.declared.shapes.Body.the-variants.{Cylinder as Bar}
-use Rattle.verdicts.specs.Tilt.{judgedDistance, lessTilt, tiltLength}
-use Rattle.verdicts.specs.Verdicts.{bodyVerdict, collides}
-use Rattle.walk_verdicts.specs.WalkVerdicts.{judgedWalk, walkVerdict}
-use Rattle.walk_verdicts.specs.declared.shapes.JudgedWalk.{JudgedWalk}
+use Rattle.bodies.specs.verdicts.Tilt.{judgedDistance, lessTilt, tiltLength}
+use Rattle.bodies.specs.verdicts.Verdicts.{bodyVerdict, collides}
+use Rattle.bodies.specs.walk_verdicts.WalkVerdicts.{judgedWalk, walkVerdict}
+use Rattle.bodies.specs.declared.walk_verdicts.shapes.JudgedWalk.{JudgedWalk}
 use Rattle.truth.specs.Exact.{origin, place, units}
 use Rattle.truth.specs.Points.{full, Held, metre, Reach, WithinReach}
 use Rattle.truth.specs.Boxes.{BoxTrue}

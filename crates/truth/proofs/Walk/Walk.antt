@@ -12,18 +12,18 @@ use native.Mathlib.Omega.{arith}
 use lib.Dec.{lit≤, T}
 use lib.Ieee.{binary64, Float, ofBits, prec}
 use lib.Pow.{pow-add, pow-mono, pow-pos}
-use Rattle.roots.proofs.Rounding.Key.{key, magnitude, mid, number, number-of, unit}
-use Rattle.roots.proofs.Rounding.KeyOrder.{key→le, le→key, lt→key}
-use Rattle.roots.proofs.Rounding.Sum.{add-number}
+use Rattle.arith.proofs.roots.Rounding.Key.{key, magnitude, mid, number, number-of, unit}
+use Rattle.arith.proofs.roots.Rounding.KeyOrder.{key→le, le→key, lt→key}
+use Rattle.arith.proofs.roots.Rounding.Sum.{add-number}
 use Rattle.arith.specs.F64.{_⊕_, _⊖_, _≺_, _≼_, e-9}
 use Rattle.arith.proofs.Laws.Bounded.{Bounded, bounded-up, mid-lt, overflow}
 use Rattle.arith.proofs.Laws.Sizes.{e-9-finite, Finite, finite-number, K, M, Number}
 use Rattle.section.proofs.Demand.Hits.{VerticesAtMost}
 use Rattle.section.proofs.Numbers.{box-number}
-use Rattle.bands.specs.declared.shapes.RadialBand.{RadialBand}
-use Rattle.bands.proofs.Limit.{InLimit}
-use Rattle.pieces.specs.Pieces.{boxHit, pieceBox, variation, wholeWidth}
-use Rattle.pieces.specs.declared.shapes.Piece.{Piece}
+use Rattle.walk.specs.declared.bands.shapes.RadialBand.{RadialBand}
+use Rattle.walk.proofs.bands.Limit.{InLimit}
+use Rattle.walk.specs.pieces.Pieces.{boxHit, pieceBox, variation, wholeWidth}
+use Rattle.walk.specs.declared.pieces.shapes.Piece.{Piece}
 use Rattle.walk.specs.Walk.{reported, sampled, start, Walk, walkAll}
 use Rattle.walk.proofs.Cover.Boxes.{box-inner, box-outer}
 use Rattle.walk.proofs.Cover.Covers.{Coverable, covers}

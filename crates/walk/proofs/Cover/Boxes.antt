@@ -8,17 +8,17 @@ use lib.Dec.{T}
 use lib.Ieee.{Float, binary64}
 use Rattle.arith.specs.F64.{_≼_}
 use Rattle.arith.specs.Num.{clamp}
-use Rattle.roots.proofs.Numbers.{decide}
+use Rattle.arith.proofs.roots.Numbers.{decide}
 use Rattle.arith.proofs.Laws.Order.{clamp-key}
 use Rattle.arith.proofs.Laws.SizedOrder.{key-le, max-finite-key, min-finite-key}
 use Rattle.arith.proofs.Laws.Sizes.{Finite, K, finite-number, finite-raise}
-use Rattle.bands.specs.Band.{halfWidth, spanAt}
-use Rattle.bands.specs.declared.shapes.RadialBand.{RadialBand}
-use Rattle.bands.proofs.HalfWidth.{LiesBetween, halfWidth-finite, halfWidth-not-negative, nearer-is-wider}
-use Rattle.bands.proofs.Limit.{InLimit}
-use Rattle.bands.proofs.Spans.{SpanFinite, span-nested, spanAt-finite}
-use Rattle.pieces.specs.Pieces.{widest, narrowest, pieceBox}
-use Rattle.pieces.specs.declared.shapes.Piece.{Piece}
+use Rattle.walk.specs.bands.Band.{halfWidth, spanAt}
+use Rattle.walk.specs.declared.bands.shapes.RadialBand.{RadialBand}
+use Rattle.walk.proofs.bands.HalfWidth.{LiesBetween, halfWidth-finite, halfWidth-not-negative, nearer-is-wider}
+use Rattle.walk.proofs.bands.Limit.{InLimit}
+use Rattle.walk.proofs.bands.Spans.{SpanFinite, span-nested, spanAt-finite}
+use Rattle.walk.specs.pieces.Pieces.{widest, narrowest, pieceBox}
+use Rattle.walk.specs.declared.pieces.shapes.Piece.{Piece}
 use Rattle.walk.proofs.Demand.Pieces.{Sound, clamped, greatest-radius, least-radius, narrowest-finite, widest-finite}
 
 module _ {b : RadialBand} (B : InLimit b) {p : Piece} (P : Sound p) {z : Float} (Z : Finite 21 z)

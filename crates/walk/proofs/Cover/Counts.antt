@@ -8,12 +8,12 @@ use mathlib.Core.List.{List, [], _∷_}
 use native.Mathlib.Omega.{arith}
 use lib.ListN.{length}
 use lib.Ieee.{Float}
-use Rattle.pieces.specs.declared.shapes.Piece.{Piece}
+use Rattle.walk.specs.declared.pieces.shapes.Piece.{Piece}
 use Rattle.walk.specs.Walk.{Walk, waiting, measured, walk, left}
 use Rattle.walk.specs.Cover.{waits}
-use Rattle.bands.specs.declared.shapes.RadialBand.{RadialBand}
+use Rattle.walk.specs.declared.bands.shapes.RadialBand.{RadialBand}
 use Rattle.arith.proofs.Laws.Sizes.{Number}
-use Rattle.bands.proofs.Limit.{InLimit}
+use Rattle.walk.proofs.bands.Limit.{InLimit}
 use Rattle.walk.proofs.Cover.Depth.{Tolerance}
 use Rattle.walk.proofs.Cover.Turns.{Ready, turn-of, next}
 

@@ -11,19 +11,19 @@ use lib.ListN.{length}
 use lib.Dec.{T, lit≤, lit<}
 use lib.Ieee.{Float, binary64, fits}
 use Rattle.arith.specs.F64.{_⊕_, _⊖_, _≺_, _≼_}
-use Rattle.roots.proofs.Rounding.KeyOrder.{le→key, key→le, key→lt}
+use Rattle.arith.proofs.roots.Rounding.KeyOrder.{le→key, key→le, key→lt}
 use Rattle.arith.proofs.Laws.Bounded.{between-bounded}
-use Rattle.pieces.specs.Pieces.{wholeWidth, pieceBox, variation, boxHit}
-use Rattle.pieces.specs.declared.shapes.Piece.{Piece}
+use Rattle.walk.specs.pieces.Pieces.{wholeWidth, pieceBox, variation, boxHit}
+use Rattle.walk.specs.declared.pieces.shapes.Piece.{Piece}
 use Rattle.walk.specs.Walk.{Walk, start, sampled, waiting, measured, walk, walkAll}
 use Rattle.walk.specs.Cover.{Covered, Covers}
-use Rattle.bands.specs.declared.shapes.RadialBand.{RadialBand}
+use Rattle.walk.specs.declared.bands.shapes.RadialBand.{RadialBand}
 use Rattle.arith.proofs.Laws.Extended.{sum-number}
 use Rattle.arith.proofs.Laws.OrderHeld.{T→true, held-number, le-right}
 use Rattle.arith.proofs.Laws.SizedOrder.{key-le}
 use Rattle.arith.proofs.Laws.Sizes.{Finite, K, Number, finite-number}
 use Rattle.section.proofs.Numbers.{box-number}
-use Rattle.bands.proofs.Limit.{InLimit}
+use Rattle.walk.proofs.bands.Limit.{InLimit}
 use Rattle.walk.proofs.Demand.Pieces.{Sound, variation-finite, wholeWidth-sound}
 use Rattle.walk.proofs.Demand.Samples.{sampled-number}
 use Rattle.walk.proofs.Cover.Boxes.{box-inner, box-outer}

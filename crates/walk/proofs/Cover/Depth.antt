@@ -7,19 +7,19 @@ use lib.Dec.{T, lit≤, lit<}
 use lib.Pow.{pow-pos}
 use lib.Ieee.{Float, binary64, fits, ofBits}
 use Rattle.arith.specs.F64.{_⊕_, _⊖_, _≺_, _≼_, ½, e-9}
-use Rattle.roots.proofs.Rounding.Key.{finiteNumber, key, mid, magnitude, unit, number-of}
-use Rattle.roots.proofs.Rounding.KeyOrder.{le→key}
-use Rattle.roots.proofs.Rounding.RoundKey.{roundKey-near}
-use Rattle.roots.proofs.Rounding.Sum.{add-key, sub-key}
+use Rattle.arith.proofs.roots.Rounding.Key.{finiteNumber, key, mid, magnitude, unit, number-of}
+use Rattle.arith.proofs.roots.Rounding.KeyOrder.{le→key}
+use Rattle.arith.proofs.roots.Rounding.RoundKey.{roundKey-near}
+use Rattle.arith.proofs.roots.Rounding.Sum.{add-key, sub-key}
 use Rattle.arith.proofs.Laws.Bounded.{bounded-within}
 use Rattle.arith.proofs.Laws.Middle.{half, half-is}
 use Rattle.arith.proofs.Laws.Depth.{Level, level-start, level-wide, level-down, Scale, split}
-use Rattle.bands.specs.Band.{mean}
-use Rattle.bands.specs.declared.shapes.RadialBand.{RadialBand}
+use Rattle.walk.specs.bands.Band.{mean}
+use Rattle.walk.specs.declared.bands.shapes.RadialBand.{RadialBand}
 use Rattle.arith.proofs.Laws.Sizes.{Finite, K, M, Number, held-finite}
-use Rattle.bands.proofs.Limit.{InLimit}
-use Rattle.pieces.specs.Pieces.{piece, wholeWidth}
-use Rattle.pieces.specs.declared.shapes.Piece.{Piece}
+use Rattle.walk.proofs.bands.Limit.{InLimit}
+use Rattle.walk.specs.pieces.Pieces.{piece, wholeWidth}
+use Rattle.walk.specs.declared.pieces.shapes.Piece.{Piece}
 use Rattle.walk.proofs.Demand.Pieces.{Sound, halve-sound, wholeWidth-sound}
 
 -- the width at the start, 2 ^ 21 with room for the rounding of its ends, and the rounding of a middle: both counted in

@@ -9,14 +9,14 @@ use native.Mathlib.Nat.{le-refl, le-trans, le-of-lt}
 use lib.ListN.{length}
 use lib.Ieee.{Float}
 use Rattle.arith.specs.F64.{_⊖_}
-use Rattle.roots.proofs.Numbers.{decide}
-use Rattle.bands.specs.Band.{mean}
-use Rattle.pieces.specs.Pieces.{variation, boxHit}
-use Rattle.pieces.specs.declared.shapes.Piece.{Piece}
+use Rattle.arith.proofs.roots.Numbers.{decide}
+use Rattle.walk.specs.bands.Band.{mean}
+use Rattle.walk.specs.pieces.Pieces.{variation, boxHit}
+use Rattle.walk.specs.declared.pieces.shapes.Piece.{Piece}
 use Rattle.walk.specs.Walk.{Walk, halved, marked, waiting, measured, walk}
-use Rattle.bands.specs.declared.shapes.RadialBand.{RadialBand}
+use Rattle.walk.specs.declared.bands.shapes.RadialBand.{RadialBand}
 use Rattle.arith.proofs.Laws.Sizes.{K, Number}
-use Rattle.bands.proofs.Limit.{InLimit}
+use Rattle.walk.proofs.bands.Limit.{InLimit}
 use Rattle.walk.proofs.Demand.Pieces.{Sound}
 use Rattle.walk.proofs.Cover.Depth.{Tolerance}
 use Rattle.walk.proofs.Cover.Turns.{Settles, settles-down, Ready, TurnOf, turn-of, next}

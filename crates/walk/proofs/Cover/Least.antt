@@ -10,17 +10,17 @@ use lib.Dec.{T}
 use lib.Ieee.{Float, binary64}
 use Rattle.arith.specs.F64.{_≼_, ∞}
 use Rattle.arith.specs.Num.{min}
-use Rattle.roots.proofs.Rounding.KeyOrder.{key→le}
+use Rattle.arith.proofs.roots.Rounding.KeyOrder.{key→le}
 use Rattle.arith.proofs.Laws.Order.{min-infinity, min-key}
-use Rattle.profile.specs.declared.shapes.CollisionHit.{CollisionHit}
-use Rattle.pieces.specs.Pieces.{pieceBox, boxHit}
-use Rattle.pieces.specs.declared.shapes.Piece.{Piece}
+use Rattle.section.specs.declared.profile.shapes.CollisionHit.{CollisionHit}
+use Rattle.walk.specs.pieces.Pieces.{pieceBox, boxHit}
+use Rattle.walk.specs.declared.pieces.shapes.Piece.{Piece}
 use Rattle.walk.specs.Walk.{Walk, start, waiting, measured, walk, reported}
 use Rattle.walk.specs.Cover.{Least}
-use Rattle.bands.specs.declared.shapes.RadialBand.{RadialBand}
+use Rattle.walk.specs.declared.bands.shapes.RadialBand.{RadialBand}
 use Rattle.arith.proofs.Laws.Sizes.{K, Number, min-keeps}
-use Rattle.profile.proofs.Numbers.{infinite}
-use Rattle.profile.proofs.Steps.{pick}
+use Rattle.section.proofs.profile.Numbers.{infinite}
+use Rattle.section.proofs.profile.Steps.{pick}
 use Rattle.section.proofs.Numbers.{box-number}
 
 module _ (s : List Float) (b : RadialBand) where

@@ -10,20 +10,20 @@ use lib.ListN.{length}
 use lib.Dec.{T}
 use lib.Ieee.{Float, binary64}
 use Rattle.arith.specs.F64.{_⊕_, _⊖_, _≺_, _≼_, e-12}
-use Rattle.roots.proofs.Rounding.KeyOrder.{key→le, lt→key, nlt→key}
-use Rattle.profile.specs.Vertices.{hit, nearer}
-use Rattle.profile.specs.declared.shapes.CollisionHit.{CollisionHit}
-use Rattle.pieces.specs.Pieces.{pieceBox, variation, boxHit}
-use Rattle.pieces.specs.declared.shapes.Piece.{Piece}
+use Rattle.arith.proofs.roots.Rounding.KeyOrder.{key→le, lt→key, nlt→key}
+use Rattle.section.specs.profile.Vertices.{hit, nearer}
+use Rattle.section.specs.declared.profile.shapes.CollisionHit.{CollisionHit}
+use Rattle.walk.specs.pieces.Pieces.{pieceBox, variation, boxHit}
+use Rattle.walk.specs.declared.pieces.shapes.Piece.{Piece}
 use Rattle.walk.specs.Walk.{dropped, better, halved, waiting}
-use Rattle.bands.specs.declared.shapes.RadialBand.{RadialBand}
+use Rattle.walk.specs.declared.bands.shapes.RadialBand.{RadialBand}
 use Rattle.arith.proofs.Laws.Extended.{sum-number, sum-ge}
 use Rattle.arith.proofs.Laws.OrderHeld.{number-held}
 use Rattle.arith.proofs.Laws.Sizes.{Finite, K, Number, e-12-finite, e-12-positive, finite-number, sub-finite}
-use Rattle.profile.proofs.Numbers.{NumberHit, nearer-low, nearer-number}
-use Rattle.profile.proofs.Steps.{pick}
+use Rattle.section.proofs.profile.Numbers.{NumberHit, nearer-low, nearer-number}
+use Rattle.section.proofs.profile.Steps.{pick}
 use Rattle.section.proofs.Numbers.{box-number}
-use Rattle.bands.proofs.Limit.{InLimit}
+use Rattle.walk.proofs.bands.Limit.{InLimit}
 use Rattle.walk.proofs.Demand.Pieces.{variation-finite}
 use Rattle.walk.proofs.Cover.Depth.{AtDepth, shallower, Tolerance, tolerance-number, halve}
 

@@ -3,12 +3,12 @@
 use Prim.Native.Nat.{ℕ, zero, suc}
 use mathlib.Core.List.{List, [], _∷_}
 use lib.Ieee.{Float}
-use Rattle.profile.proofs.Each.{All, all-map, cons, nil}
-use Rattle.bands.specs.declared.shapes.RadialBand.{RadialBand}
-use Rattle.bands.proofs.AxialBox.{Ordered}
-use Rattle.bands.proofs.Limit.{InLimit}
-use Rattle.pieces.specs.Pieces.{pieceBox, wholeWidth}
-use Rattle.pieces.specs.declared.shapes.Piece.{Piece}
+use Rattle.section.proofs.profile.Each.{All, all-map, cons, nil}
+use Rattle.walk.specs.declared.bands.shapes.RadialBand.{RadialBand}
+use Rattle.walk.proofs.bands.AxialBox.{Ordered}
+use Rattle.walk.proofs.bands.Limit.{InLimit}
+use Rattle.walk.specs.pieces.Pieces.{pieceBox, wholeWidth}
+use Rattle.walk.specs.declared.pieces.shapes.Piece.{Piece}
 use Rattle.walk.specs.Walk.{Walk, sampled, start, walk, walkAll}
 use Rattle.walk.proofs.Demand.Pieces.{Sound, boxOf-ordered, waiting-sound, wholeWidth-sound}
 

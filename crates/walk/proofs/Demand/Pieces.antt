@@ -8,25 +8,25 @@ use lib.Dec.{lit<}
 use lib.Ieee.{Float, binary64, ofBits}
 use Rattle.arith.specs.F64.{_⊖_, _≺_, 𝟘, ½}
 use Rattle.arith.specs.Num.{clamp, max, min}
-use Rattle.roots.proofs.Rounding.Key.{mid}
+use Rattle.arith.proofs.roots.Rounding.Key.{mid}
 use Rattle.arith.proofs.Laws.Bounded.{bounded-within}
 use Rattle.arith.proofs.Laws.Middle.{Between, IsHalf, half, half-is, middle}
 use Rattle.arith.proofs.Laws.SizedOrder.{add-given-ge, key-le, max-finite-key, min-finite-key, sub-given-le, zero-le-key}
 use Rattle.arith.proofs.Laws.Sizes.{Finite, K, M, add-finite, add-given, cond-keeps, finite-given, finite-raise, half-finite}
 use Rattle.arith.proofs.Laws.Sizes.{max-keeps, min-keeps, sub-finite, sub-given, zero-finite}
-use Rattle.profile.specs.declared.shapes.CollisionHit.{CollisionHit}
-use Rattle.profile.proofs.Steps.{pick}
+use Rattle.section.specs.declared.profile.shapes.CollisionHit.{CollisionHit}
+use Rattle.section.proofs.profile.Steps.{pick}
 use Rattle.section.proofs.Demand.Bounds.{finite-atMost}
 use Rattle.section.proofs.Demand.Hits.{BoxAtMost}
-use Rattle.profile.proofs.Each.{All, cons}
-use Rattle.bands.specs.Band.{halfWidth, mean, spanAt}
-use Rattle.bands.specs.declared.shapes.RadialBand.{RadialBand}
-use Rattle.bands.proofs.AxialBox.{Ordered}
-use Rattle.bands.proofs.HalfWidth.{halfWidth-finite}
-use Rattle.bands.proofs.Limit.{InLimit}
-use Rattle.bands.proofs.Spans.{SpanFinite, span-least, span-order, spanAt-finite}
-use Rattle.pieces.specs.Pieces.{pieceBox, narrowest, piece, variation, wholeWidth, widest, boxHit, halves}
-use Rattle.pieces.specs.declared.shapes.Piece.{Piece}
+use Rattle.section.proofs.profile.Each.{All, cons}
+use Rattle.walk.specs.bands.Band.{halfWidth, mean, spanAt}
+use Rattle.walk.specs.declared.bands.shapes.RadialBand.{RadialBand}
+use Rattle.walk.proofs.bands.AxialBox.{Ordered}
+use Rattle.walk.proofs.bands.HalfWidth.{halfWidth-finite}
+use Rattle.walk.proofs.bands.Limit.{InLimit}
+use Rattle.walk.proofs.bands.Spans.{SpanFinite, span-least, span-order, spanAt-finite}
+use Rattle.walk.specs.pieces.Pieces.{pieceBox, narrowest, piece, variation, wholeWidth, widest, boxHit, halves}
+use Rattle.walk.specs.declared.pieces.shapes.Piece.{Piece}
 use Rattle.walk.specs.Walk.{halved, thinBox, waiting}
 
 pub record Sound (p : Piece) : Type 0 where

@@ -9,20 +9,20 @@ use Rattle.arith.specs.F64.{𝟘, ∞}
 use Rattle.arith.proofs.Laws.Intervals.{Intervals, interval-finite}
 use Rattle.arith.proofs.Laws.OrderHeld.{number-held}
 use Rattle.arith.proofs.Laws.Sizes.{Finite, add-finite, finite-raise, half-finite, mul-finite, sub-finite, zero-finite}
-use Rattle.points.specs.Points.{pointDistance}
-use Rattle.profile.specs.Vertices.{count, hit, nearer, nearestOf, on, vertex}
-use Rattle.profile.specs.declared.shapes.CollisionHit.{CollisionHit}
-use Rattle.profile.proofs.Numbers.{NumberHit, infinite, nearest-number}
-use Rattle.profile.proofs.Steps.{upto-keeps}
+use Rattle.section.specs.points.Points.{pointDistance}
+use Rattle.section.specs.profile.Vertices.{count, hit, nearer, nearestOf, on, vertex}
+use Rattle.section.specs.declared.profile.shapes.CollisionHit.{CollisionHit}
+use Rattle.section.proofs.profile.Numbers.{NumberHit, infinite, nearest-number}
+use Rattle.section.proofs.profile.Steps.{upto-keeps}
 use Rattle.section.proofs.Demand.Bounds.{finite-atMost}
 use Rattle.section.proofs.Demand.Hits.{BestAtMost, VertexAtMost, VerticesAtMost, nearer-best, none-yet}
 use Rattle.section.proofs.Demand.Points.{point-best}
-use Rattle.points.proofs.Numbers.{point-number}
-use Rattle.bands.specs.Band.{halfWidth, spanAt}
-use Rattle.bands.specs.declared.shapes.RadialBand.{RadialBand}
-use Rattle.bands.proofs.HalfWidth.{halfWidth-finite}
-use Rattle.bands.proofs.Limit.{InLimit}
-use Rattle.bands.proofs.Spans.{SpanFinite, spanAt-finite}
+use Rattle.section.proofs.points.Numbers.{point-number}
+use Rattle.walk.specs.bands.Band.{halfWidth, spanAt}
+use Rattle.walk.specs.declared.bands.shapes.RadialBand.{RadialBand}
+use Rattle.walk.proofs.bands.HalfWidth.{halfWidth-finite}
+use Rattle.walk.proofs.bands.Limit.{InLimit}
+use Rattle.walk.proofs.bands.Spans.{SpanFinite, spanAt-finite}
 use Rattle.walk.specs.Walk.{sampleVertex, sampleZ, sampled}
 use Rattle.walk.proofs.Demand.Pieces.{wholeWidth-sound}
 

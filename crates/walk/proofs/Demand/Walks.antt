@@ -11,18 +11,18 @@ use Rattle.arith.proofs.Laws.Extended.{infinity-plus}
 use Rattle.arith.proofs.Laws.Intervals.{Intervals}
 use Rattle.arith.proofs.Laws.OrderHeld.{none-above-inf}
 use Rattle.arith.proofs.Laws.Sizes.{add-finite, e-12-finite, Finite, finite-ends, finite-raise}
-use Rattle.profile.proofs.Steps.{pick}
-use Rattle.profile.specs.Vertices.{count}
-use Rattle.profile.specs.declared.shapes.CollisionHit.{CollisionHit}
+use Rattle.section.proofs.profile.Steps.{pick}
+use Rattle.section.specs.profile.Vertices.{count}
+use Rattle.section.specs.declared.profile.shapes.CollisionHit.{CollisionHit}
 use Rattle.section.proofs.Demand.Boxes.{box-atMost}
 use Rattle.section.proofs.Demand.Hits.{BestAtMost, HitAtMost, LeastAtMost, VerticesAtMost, found, min-new, nearer-new}
 use Rattle.section.proofs.Demand.Hits.{best-raise, no-distance, none-yet, some-distance}
-use Rattle.profile.proofs.Each.{All, cons, nil}
-use Rattle.pieces.specs.declared.shapes.Piece.{Piece}
+use Rattle.section.proofs.profile.Each.{All, cons, nil}
+use Rattle.walk.specs.declared.pieces.shapes.Piece.{Piece}
 use Rattle.walk.specs.Walk.{Walk, better, dropped, measured, start, walk}
 use Rattle.walk.specs.Walk.{walkAll, walked}
-use Rattle.bands.specs.declared.shapes.RadialBand.{RadialBand}
-use Rattle.bands.proofs.Limit.{InLimit}
+use Rattle.walk.specs.declared.bands.shapes.RadialBand.{RadialBand}
+use Rattle.walk.proofs.bands.Limit.{InLimit}
 use Rattle.walk.proofs.Demand.Pieces.{Sound, boxOf-atMost, variation-finite, waiting-sound}
 use Rattle.walk.proofs.Demand.Pieces.{wholeWidth-sound}
 use Rattle.walk.proofs.Demand.Samples.{sampled-best}

@@ -1,7 +1,7 @@
 -- `bodies::queries::query_body` meets its contract: by the kind of the body.
 use borrow.Author.Needs.{needs}
 use Rattle.bodies.specs.Bodies.{bodyAnswer}
-use Rattle.cylinders.specs.Cylinders.{cylinderAnswer}
+use Rattle.walk.specs.cylinders.Cylinders.{cylinderAnswer}
 use Rattle.bodies.proofs.queries.query_body.Statement.{statement}
 use Rattle.bodies.proofs.queries.query_body.Tie as tie
 

@@ -2,10 +2,10 @@
 use borrow.Author.Needs.{needs}
 use mathlib.Core.List.{_++_}
 use mathlib.Core.Path.{sym, _∙_}
-use Rattle.profile.specs.Refusals.{axisTests, radiusTests}
-use Rattle.profile.proofs.Refusals.Passed.{section-long}
-use Rattle.profile.proofs.Replies.{answered, refused}
-use Rattle.settings.specs.Settings.{settingsTests}
+use Rattle.section.specs.profile.Refusals.{axisTests, radiusTests}
+use Rattle.section.proofs.profile.Refusals.Passed.{section-long}
+use Rattle.section.proofs.profile.Replies.{answered, refused}
+use Rattle.walk.specs.settings.Settings.{settingsTests}
 use Rattle.bodies.specs.Bodies.{bodyAnswer, BodyPromised}
 use Rattle.bodies.specs.declared.shapes.Body.the-variants as body·kinds
 use Rattle.bodies.proofs.OfKind.{sphere-promised}

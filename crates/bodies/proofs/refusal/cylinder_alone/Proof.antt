@@ -1,6 +1,6 @@
 -- `bodies::refusal::cylinder_alone` meets its contract.
 use borrow.Author.Needs.{needs}
-use Rattle.profile.specs.Refusals.{numberTests}
+use Rattle.section.specs.profile.Refusals.{numberTests}
 use Rattle.bodies.proofs.Alone.{then-own}
 use Rattle.bodies.proofs.refusal.cylinder_alone.Statement.{statement}
 use Rattle.bodies.proofs.refusal.cylinder_alone.Tie as tie

@@ -1,9 +1,9 @@
 -- `capi::assembly::jorghipa_any_hit` meets its contract: the lists' number, or the verdict on the bodies read in the lent place.
 use borrow.Author.Needs.{needs}
 use mathlib.Core.Path.{refl, sym, _∙_}
-use Rattle.lists.proofs.Taken.{front-few, seven-each}
+use Rattle.capi.proofs.lists.Taken.{front-few, seven-each}
 use Rattle.capi.proofs.AssemblyRead.{by-lists, by-bodies}
-use Rattle.handing.proofs.Same.{gives}
+use Rattle.capi.proofs.handing.Same.{gives}
 use Rattle.capi.proofs.assembly.jorghipa_any_hit.Statement.{statement}
 use Rattle.capi.proofs.assembly.jorghipa_any_hit.Tie as tie
 

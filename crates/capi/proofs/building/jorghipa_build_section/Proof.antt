@@ -1,6 +1,6 @@
 -- `capi::building::jorghipa_build_section` meets its contract: the answer's case, and the space as the builder leaves it.
 use borrow.Author.Needs.{needs}
-use Rattle.handing.proofs.Same.{gives}
+use Rattle.capi.proofs.handing.Same.{gives}
 use Rattle.capi.proofs.building.jorghipa_build_section.Statement.{statement}
 use Rattle.capi.proofs.building.jorghipa_build_section.Tie as tie
 

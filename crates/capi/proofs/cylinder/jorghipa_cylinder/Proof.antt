@@ -1,8 +1,8 @@
 -- `capi::cylinder::jorghipa_cylinder` meets its contract: the answer's case in the lent places; the counts fit by demand 3.
 use borrow.Author.Needs.{needs}
 use native.Mathlib.Omega.{arith}
-use Rattle.handing.proofs.Fits.{promised-fits}
-use Rattle.handing.proofs.Same.{measures, owes}
+use Rattle.capi.proofs.handing.Fits.{promised-fits}
+use Rattle.capi.proofs.handing.Same.{measures, owes}
 use Rattle.capi.proofs.cylinder.jorghipa_cylinder.Statement.{statement}
 use Rattle.capi.proofs.cylinder.jorghipa_cylinder.Tie as tie
 

@@ -1,7 +1,7 @@
 -- `capi::distances::jorghipa_convex` meets its contract: the answer's case in the lent places.
 use borrow.Author.Needs.{needs}
 use Rattle.section.proofs.Demand.Queries.{bounded-few}
-use Rattle.handing.proofs.Same.{measures, owes}
+use Rattle.capi.proofs.handing.Same.{measures, owes}
 use Rattle.capi.proofs.distances.jorghipa_convex.Statement.{statement}
 use Rattle.capi.proofs.distances.jorghipa_convex.Tie as tie
 

@@ -1,7 +1,7 @@
 -- `capi::lifting::jorghipa_lifted_sphere` meets its contract: the answer's case in the lent places.
 use borrow.Author.Needs.{needs}
 use Rattle.section.proofs.Demand.Queries.{boundedOffAxis-few}
-use Rattle.handing.proofs.Same.{measures, owes}
+use Rattle.capi.proofs.handing.Same.{measures, owes}
 use Rattle.capi.proofs.lifting.jorghipa_lifted_sphere.Statement.{statement}
 use Rattle.capi.proofs.lifting.jorghipa_lifted_sphere.Tie as tie
 

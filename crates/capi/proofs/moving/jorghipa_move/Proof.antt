@@ -2,8 +2,8 @@
 use borrow.Author.Needs.{needs}
 use mathlib.Core.Path.{sym, _∙_}
 use Rattle.capi.specs.Calls.{moveOf}
-use Rattle.lists.proofs.Taken.{seven-given}
-use Rattle.handing.proofs.Same.{measures, body-refused, body-taken}
+use Rattle.capi.proofs.lists.Taken.{seven-given}
+use Rattle.capi.proofs.handing.Same.{measures, body-refused, body-taken}
 use Rattle.capi.proofs.moving.jorghipa_move.Statement.{statement}
 use Rattle.capi.proofs.moving.jorghipa_move.Tie as tie
 

@@ -2,9 +2,9 @@
 use borrow.Author.Needs.{needs}
 use mathlib.Core.Path.{sym, _∙_}
 use Rattle.capi.specs.Calls.{pairOf}
-use Rattle.lists.proofs.Taken.{seven-given}
-use Rattle.handing.proofs.Fits.{pair-fits}
-use Rattle.handing.proofs.Same.{measures, body-refused, body-taken}
+use Rattle.capi.proofs.lists.Taken.{seven-given}
+use Rattle.capi.proofs.handing.Fits.{pair-fits}
+use Rattle.capi.proofs.handing.Same.{measures, body-refused, body-taken}
 use Rattle.capi.proofs.pair.jorghipa_pair.Statement.{statement}
 use Rattle.capi.proofs.pair.jorghipa_pair.Tie as tie
 

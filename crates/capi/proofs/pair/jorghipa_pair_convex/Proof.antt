@@ -1,7 +1,7 @@
 -- `capi::pair::jorghipa_pair_convex` meets its contract: the pair's answer in the lent places.
 use borrow.Author.Needs.{needs}
-use Rattle.handing.proofs.Fits.{pair-convex-fits}
-use Rattle.handing.proofs.Same.{measures}
+use Rattle.capi.proofs.handing.Fits.{pair-convex-fits}
+use Rattle.capi.proofs.handing.Same.{measures}
 use Rattle.capi.proofs.pair.jorghipa_pair_convex.Statement.{statement}
 use Rattle.capi.proofs.pair.jorghipa_pair_convex.Tie as tie
 

@@ -1,6 +1,6 @@
 -- `capi::verdict::jorghipa_verdict_sphere` meets its contract: the verdict's case in the lent place.
 use borrow.Author.Needs.{needs}
-use Rattle.handing.proofs.Same.{gives}
+use Rattle.capi.proofs.handing.Same.{gives}
 use Rattle.capi.proofs.verdict.jorghipa_verdict_sphere.Statement.{statement}
 use Rattle.capi.proofs.verdict.jorghipa_verdict_sphere.Tie as tie
 

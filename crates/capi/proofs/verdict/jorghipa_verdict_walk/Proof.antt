@@ -1,6 +1,6 @@
 -- `capi::verdict::jorghipa_verdict_walk` meets its contract: the verdict's case in the lent places.
 use borrow.Author.Needs.{needs}
-use Rattle.handing.proofs.Same.{measures}
+use Rattle.capi.proofs.handing.Same.{measures}
 use Rattle.capi.proofs.verdict.jorghipa_verdict_walk.Statement.{statement}
 use Rattle.capi.proofs.verdict.jorghipa_verdict_walk.Tie as tie
 

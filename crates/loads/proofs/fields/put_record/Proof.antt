@@ -2,7 +2,7 @@
 use native.Mathlib.Omega.{arith}
 use Rattle.store.specs.Records.{recordBytes}
 use Rattle.store.proofs.ReadBack.{length-low}
-use Rattle.store_listing.proofs.Writing.{then}
+use Rattle.listings.proofs.store_listing.Writing.{then}
 use borrow.Author.Needs.{needs}
 use Rattle.loads.proofs.fields.put_record.Statement.{statement}
 use Rattle.loads.proofs.fields.put_record.Tie as tie

@@ -1,7 +1,7 @@
 -- `loads::printing::put_bytes_line`. The digits, then the newline.
 use native.Mathlib.Omega.{arith}
-use Rattle.store_listing.specs.Text.{text}
-use Rattle.store_listing.proofs.Writing.{then}
+use Rattle.listings.specs.store_listing.Text.{text}
+use Rattle.listings.proofs.store_listing.Writing.{then}
 use Rattle.loads.specs.Printed.{bytesLine}
 use Rattle.loads.proofs.Lines.{length-digits, length-bytes-line}
 use borrow.Author.Needs.{needs}

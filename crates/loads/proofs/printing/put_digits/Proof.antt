@@ -5,10 +5,10 @@ use mathlib.Core.List.{flatMap}
 use mathlib.Core.Path.{_≡_, refl}
 use lib.ListN.{length, take}
 use lib.Seq.{take-all}
-use Rattle.store_listing.specs.Text.{hex}
-use Rattle.store_listing.specs.Steps.{Written}
-use Rattle.store_listing.proofs.Pieces.{line-more}
-use Rattle.store_listing.proofs.Writing.{nothing-written}
+use Rattle.listings.specs.store_listing.Text.{hex}
+use Rattle.listings.specs.store_listing.Steps.{Written}
+use Rattle.listings.proofs.store_listing.Pieces.{line-more}
+use Rattle.listings.proofs.store_listing.Writing.{nothing-written}
 use Rattle.loads.proofs.Lines.{digits-room}
 use borrow.Author.Needs.{needs}
 use Rattle.loads.proofs.printing.put_digits.Statement.{statement}

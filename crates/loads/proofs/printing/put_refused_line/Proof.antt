@@ -1,8 +1,8 @@
 -- `loads::printing::put_refused_line`. Three pieces, one behind the other; the line's length is the sum of theirs.
 use native.Mathlib.Omega.{arith}
 use lib.ListN.{length-append}
-use Rattle.store_listing.specs.Text.{text}
-use Rattle.store_listing.proofs.Writing.{then}
+use Rattle.listings.specs.store_listing.Text.{text}
+use Rattle.listings.proofs.store_listing.Writing.{then}
 use Rattle.loads.specs.Printed.{refusedLine}
 use borrow.Author.Needs.{needs}
 use Rattle.loads.proofs.printing.put_refused_line.Statement.{statement}

@@ -1,6 +1,6 @@
 -- `loads::writer::load_refusal` makes its tests in their order.
 use borrow.Author.Tests.{eq-eqb, ne-eqb, lt-ltb, le-ltb}
-use Rattle.profile.specs.Refusals.{refusal}
+use Rattle.section.specs.profile.Refusals.{refusal}
 use Rattle.loads.proofs.writer.load_refusal.Statement.{statement}
 use Rattle.loads.proofs.writer.load_refusal.Tie as tie
 

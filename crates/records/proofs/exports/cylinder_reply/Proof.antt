@@ -1,7 +1,7 @@
 -- `records::exports::cylinder_reply` meets its contract: the reply of the answer on the front.
 use borrow.Author.Needs.{needs}
-use Rattle.settings.specs.Settings.{finest}
-use Rattle.cylinders.specs.Cylinders.{told, cylinderAnswer}
+use Rattle.walk.specs.settings.Settings.{finest}
+use Rattle.walk.specs.cylinders.Cylinders.{told, cylinderAnswer}
 use Rattle.section.proofs.Demand.Queries.{bounded-few}
 use Rattle.records.specs.Replies.{cCylinderReply}
 use Rattle.records.proofs.Replied.{owed-front, replied}

@@ -1,6 +1,6 @@
 -- `records::exports::jorghipa_cylinder_of` meets its contract: the walk of `Layer`, at the records of C.
 use denote.Struct.Laws as struct-laws
-use Rattle.profile.specs.Replies.{turned-down}
+use Rattle.section.specs.profile.Replies.{turned-down}
 use Rattle.records.specs.Replies.{cCylinderReply}
 use Rattle.records.specs.Steps.{OfBar}
 use Rattle.records.proofs.replies.Bar as body

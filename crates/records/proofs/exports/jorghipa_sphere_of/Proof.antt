@@ -1,6 +1,6 @@
 -- `records::exports::jorghipa_sphere_of` meets its contract: the walk of `Layer`, at the records of C.
 use denote.Struct.Laws as struct-laws
-use Rattle.profile.specs.Replies.{turned-down}
+use Rattle.section.specs.profile.Replies.{turned-down}
 use Rattle.records.specs.Replies.{cReply}
 use Rattle.records.specs.Steps.{OfBall}
 use Rattle.records.proofs.replies.Ball as body

@@ -2,8 +2,8 @@
 use denote.Struct.Laws as struct-laws
 use denote.Enum.Laws as enum-laws
 use Rattle.section.specs.declared.shapes.Answer.the-variants.{Refused}
-use Rattle.profile.proofs.shapes.Aabb as body
-use Rattle.profile.proofs.shapes.Aabb.Laws as body-laws
+use Rattle.section.proofs.profile.shapes.Aabb as body
+use Rattle.section.proofs.profile.shapes.Aabb.Laws as body-laws
 use Rattle.section.proofs.shapes.Answer as answer
 use Rattle.section.proofs.shapes.Answer.Laws as answer-laws
 use Rattle.records.specs.Steps.{OfBox}

@@ -1,11 +1,11 @@
 -- `records::queries::query_cylinder_of` meets its contract: the walk of `Layer`, at cylinders.
 use denote.Struct.Laws as struct-laws
 use denote.Enum.Laws as enum-laws
-use Rattle.cylinders.specs.declared.shapes.CountedAnswer.the-variants.{Refused}
-use Rattle.bands.proofs.shapes.Cylinder as body
-use Rattle.bands.proofs.shapes.Cylinder.Laws as body-laws
-use Rattle.cylinders.proofs.shapes.CountedAnswer as answer
-use Rattle.cylinders.proofs.shapes.CountedAnswer.Laws as answer-laws
+use Rattle.walk.specs.declared.cylinders.shapes.CountedAnswer.the-variants.{Refused}
+use Rattle.walk.proofs.bands.shapes.Cylinder as body
+use Rattle.walk.proofs.bands.shapes.Cylinder.Laws as body-laws
+use Rattle.walk.proofs.cylinders.shapes.CountedAnswer as answer
+use Rattle.walk.proofs.cylinders.shapes.CountedAnswer.Laws as answer-laws
 use Rattle.records.specs.Steps.{OfCylinder}
 use Rattle.records.proofs.Answered.{cylinder-too-many}
 use Rattle.records.proofs.Layer.Form.{Form, valueOf}

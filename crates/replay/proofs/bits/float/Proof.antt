@@ -6,7 +6,7 @@ use lib.Arith.{le→nltb}
 use lib.Dec.{T}
 use lib.Ieee.{binary64, div, ofBits}
 use lib.Ieee.Bits.{nanBits-above}
-use Rattle.roots.proofs.Pattern.Special.{above-inf}
+use Rattle.arith.proofs.roots.Pattern.Special.{above-inf}
 use Rattle.replay.proofs.bits.float.Statement.{statement}
 use Rattle.replay.proofs.bits.float.Tie as tie
 

@@ -2,7 +2,7 @@
 use Prim.Native.Nat.{ℕ}
 use mathlib.Core.Path.{_≡_, refl, subst, sym}
 use lib.Ieee.{Float, eq, ofBits, toBits}
-use Rattle.roots.proofs.Pattern.Special.{like-itself, unlike-itself}
+use Rattle.arith.proofs.roots.Pattern.Special.{like-itself, unlike-itself}
 use Rattle.replay.specs.Bits.{printed}
 use Rattle.replay.proofs.bits.pattern.Statement.{statement}
 use Rattle.replay.proofs.bits.pattern.Tie as tie

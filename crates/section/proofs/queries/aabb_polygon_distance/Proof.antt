@@ -2,10 +2,10 @@
 use borrow.Author.Needs.{needs}
 use mathlib.Core.List.{[], _++_}
 use mathlib.Core.Path.{sym, _∙_}
-use Rattle.profile.specs.Refusals.{axisTests, boundsTests}
-use Rattle.profile.proofs.Refusals.Ordered.{no-settings}
-use Rattle.profile.proofs.Refusals.Passed.{section-long}
-use Rattle.profile.proofs.Replies.{answered, refused}
+use Rattle.section.specs.profile.Refusals.{axisTests, boundsTests}
+use Rattle.section.proofs.profile.Refusals.Ordered.{no-settings}
+use Rattle.section.proofs.profile.Refusals.Passed.{section-long}
+use Rattle.section.proofs.profile.Replies.{answered, refused}
 use Rattle.section.specs.Answers.{boxAnswer}
 use Rattle.section.specs.Demand.{Bounded}
 use Rattle.section.proofs.Demand.Queries.{box-demand}

@@ -1,9 +1,9 @@
 -- `section::queries::convex_polygon_distance` meets its contract: the number or the hit, and demand 1 of it.
 use borrow.Author.Needs.{needs}
 use mathlib.Core.Path.{sym, _∙_}
-use Rattle.profile.specs.Refusals.{axisTests}
-use Rattle.profile.proofs.Refusals.Passed.{convex-long}
-use Rattle.profile.proofs.Replies.{answered, refused}
+use Rattle.section.specs.profile.Refusals.{axisTests}
+use Rattle.section.proofs.profile.Refusals.Passed.{convex-long}
+use Rattle.section.proofs.profile.Replies.{answered, refused}
 use Rattle.section.specs.Answers.{convexAnswer}
 use Rattle.section.specs.Demand.{Bounded}
 use Rattle.section.proofs.Demand.Queries.{convex-demand}

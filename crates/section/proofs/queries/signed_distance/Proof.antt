@@ -1,9 +1,9 @@
 -- `section::queries::signed_distance` meets its contract: the number or the hit, and demand 1 of it.
 use borrow.Author.Needs.{needs}
 use mathlib.Core.Path.{sym, _∙_}
-use Rattle.profile.specs.Refusals.{axisTests}
-use Rattle.profile.proofs.Refusals.Passed.{section-long}
-use Rattle.profile.proofs.Replies.{answered, refused}
+use Rattle.section.specs.profile.Refusals.{axisTests}
+use Rattle.section.proofs.profile.Refusals.Passed.{section-long}
+use Rattle.section.proofs.profile.Replies.{answered, refused}
 use Rattle.section.specs.Answers.{pointAnswer}
 use Rattle.section.specs.Demand.{BoundedOffAxis}
 use Rattle.section.proofs.Demand.Queries.{point-demand}

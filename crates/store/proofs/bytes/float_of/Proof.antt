@@ -1,6 +1,6 @@
 -- `store::bytes::float_of` meets its contract.
 use mathlib.Core.Path.{sym, _∙_}
-use Rattle.roots.proofs.Pattern.Special.{above-inf}
+use Rattle.arith.proofs.roots.Pattern.Special.{above-inf}
 use Rattle.store.proofs.Patterns.{not-nan, zero-by-zero}
 use borrow.Author.Needs.{needs}
 use Rattle.store.proofs.bytes.float_of.Statement.{statement}

@@ -1,5 +1,5 @@
 -- `walk::samples::sample_at` meets its contract.
-use Rattle.profile.specs.Vertices.{upto}
+use Rattle.section.specs.profile.Vertices.{upto}
 use Rattle.walk.specs.Walk.{sampleVertex}
 use borrow.Author.Needs.{needs}
 use Rattle.walk.proofs.samples.sample_at.Statement.{statement}

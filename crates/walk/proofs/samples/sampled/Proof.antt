@@ -3,10 +3,10 @@ use Prim.Native.Nat.{suc, _≤_, _-_}
 use native.Mathlib.Omega.{arith}
 use mathlib.Core.Path.{_≡_}
 use Rattle.arith.specs.F64.{𝟘, ∞}
-use Rattle.profile.specs.Vertices.{vertex, on, hit, upto}
+use Rattle.section.specs.profile.Vertices.{vertex, on, hit, upto}
 use Rattle.walk.specs.Walk.{sampleZ, sampled}
 use Rattle.walk.specs.Steps.{sampleAt}
-use Rattle.profile.proofs.Fold.{upto-more, upto-end}
+use Rattle.section.proofs.profile.Fold.{upto-more, upto-end}
 use borrow.Author.Needs.{needs}
 use Rattle.walk.proofs.samples.sampled.Statement.{statement}
 use Rattle.walk.proofs.samples.sampled.Tie as tie

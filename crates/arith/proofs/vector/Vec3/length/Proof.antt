@@ -3,7 +3,7 @@ use borrow.Author.Needs.{needs}
 use lib.Ieee.{binary64, ofBits}
 use Rattle.arith.proofs.Laws.HypotZero.{norm-along-z}
 use Rattle.arith.proofs.Laws.OrderHeld.{true→T}
-use Rattle.roots.proofs.Rounding.Key.{plusZero}
+use Rattle.arith.proofs.roots.Rounding.Key.{plusZero}
 use Rattle.arith.proofs.vector.Vec3.length.Statement.{statement}
 use Rattle.arith.proofs.vector.Vec3.length.Tie as tie
 
