@@ -28,7 +28,7 @@ static uint32_t build(struct part *part, const double *profile, size_t count) {
     return refused("profile", jorghipa_build_section(profile, count, part->numbers, 32, &part->count));
 }
 
-/* How much more than the true distance a walk may report, an overlap as up to so much; proved (see
+/* How much more than the true distance a walk may report, an overlap as up to so much; proved beside sound sections (see
  * jorghipa.h). Rounding is on top. */
 static double margin(double radius, double tolerance) {
     const double wide = jorghipa_sqrt(2 * radius * tolerance), v = wide > tolerance ? wide : tolerance;

@@ -53,7 +53,7 @@
  *                         kept but for that
  *       across            by no more than V, if the walk was not cut, and the rounding above; judged clear, the clearance is kept
  *                         but for these, from the bar as if straight and as it leans, its caps aside
- *    NOT PROVED: convex bodies; cylinders along the spindle where they lean; caps; how far a cut is low. docs/TRUTH.md has more
+ *    NOT PROVED: convex bodies; cylinders along the spindle; caps; how far a cut is low. docs/TRUTH.md has more
  *
  * ---- What is promised
  * Proved for every argument, NaN and infinities too: a call ends, writes nowhere but into what it was lent, and returns 0 or the

@@ -115,7 +115,7 @@ impl From<Cylinder> for Body {
 ///
 /// An uncut walk may report up to V = min(R, max(t, √(2Rt))) more than the true distance, and a true overlap as any value up to V,
 /// R being the radius and t the tolerance: a distance below V does not say that the bar clears, and a clearance has to have V
-/// on top. That is proved. For a radius of 10, V is 0.1415 mm at 0.001 and 0.4473 at 0.01.
+/// on top. docs/TRUTH.md says beside which sections that is proved. For a radius of 10, V is 0.1415 mm at 0.001 and 0.4473 at 0.01.
 #[derive(Clone, Copy, Debug, PartialEq)]
 pub struct Settings {
     /// From 1e-9 to 1 mm.

@@ -85,7 +85,7 @@ fn depth(section: &Section, body: Body, hit: Hit) -> Result<Option<Depth>, Refus
 }
 
 /// What a walk at these settings may report beyond the truth: min(R, max(t, sqrt(2 R t))) at tolerance t and radius R. This is
-/// proved. Spheres, boxes and cylinders along the spindle are not walked.
+/// proved beside sound sections (docs/TRUTH.md). Spheres, boxes and cylinders along the spindle are not walked.
 pub fn margin(body: Body, Settings { tolerance, .. }: Settings) -> f64 {
     match body {
         Body::Cylinder(bar) if (bar.a.z - bar.b.z).abs() <= (bar.a.x - bar.b.x).hypot(bar.a.y - bar.b.y) => {
