@@ -1,4 +1,6 @@
 // Numbers below everything: least, greatest, clamp, magnitude; vectors of three f64; the roots.
+#![tactic(auto)]
+
 mod hypotenuse;
 mod order;
 pub mod roots;

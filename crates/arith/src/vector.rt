@@ -4,7 +4,7 @@ ghost use Rattle.arith.specs.Vector.{subtract, scale_by, norm};
 
 use crate::hypot;
 
-#[derive(Drop)]
+#[derive(Clone, Copy)]
 pub struct Vec3 {
     pub x: f64,
     pub y: f64,

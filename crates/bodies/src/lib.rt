@@ -1,4 +1,6 @@
 // Calls above the queries: one body of any kind, verdicts, many bodies, straight moves, two sections, the machine's axes.
+#![tactic(auto)]
+
 pub mod assemblies;
 mod lifted;
 mod moves;

@@ -2,7 +2,7 @@
 use section::{Aabb, Sphere};
 use walk::Cylinder;
 
-#[derive(Drop)]
+#[derive(Clone, Copy)]
 pub enum Body {
     Sphere(Sphere),
     Box(Aabb),

@@ -1,5 +1,7 @@
 // The C interface. Each function returns 0, or the number under which the call is turned down; then
 // nothing that was lent is changed. jorghipa.h declares them and says what the caller owes.
+#![tactic(auto)]
+
 mod assembly;
 mod building;
 mod cylinder;

@@ -1,4 +1,6 @@
 // Standard input, read into a lent buffer. A read that fails counts as the end.
+#![tactic(auto)]
+
 ghost use Rattle.std.specs.Prelude.{◌≡◌, ◌+◌, ◌≤◌, ◌<◌, ◌^◌, length, set};
 ghost use Rattle.std.proofs.lemmas.List.Edits.{sets};
 ghost use Rattle.input.specs.Input.{ReadsOn, ReadsPiece};

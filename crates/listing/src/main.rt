@@ -1,5 +1,7 @@
 // Lists a store: it is read from standard input to its end, and its listing is written to standard
 // output. A read that fails counts as the end.
+#![tactic(auto)]
+
 use libc::STDOUT_FILENO;
 
 // An input that is longer than every store is judged by its length. It is read as far as a usize

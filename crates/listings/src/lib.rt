@@ -1,4 +1,6 @@
 // The listing of a store: what it is, and the functions that write it.
+#![tactic(auto)]
+
 mod lister;
 pub mod store_listing;
 

@@ -1,6 +1,8 @@
 // Prints a test load: seed and vertex count are read from standard input, two little-endian u64, and
 // the store's bytes are written to standard output in one line of hexadecimal, or the refusal. A read
 // that fails counts as the end.
+#![tactic(auto)]
+
 use libc::STDOUT_FILENO;
 
 // Any other length than 16 counts as seed 0. The input is read as far as a usize can count, so that

@@ -1,4 +1,6 @@
 // Test loads: the store that a seed and a vertex count give, on bytes.
+#![tactic(auto)]
+
 mod answers;
 mod draws;
 mod fields;

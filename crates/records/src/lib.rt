@@ -1,5 +1,7 @@
 // The queries over a slice of vertex records: a thin layer that copies them into an array of numbers
 // and asks the core on its front.
+#![tactic(auto)]
+
 mod copying;
 mod exports;
 mod queries;

@@ -12,7 +12,7 @@ use section::{Aabb, Answer, Sphere};
 use walk::{CountedAnswer, Cylinder};
 
 #[repr(C)]
-#[derive(Drop)]
+#[derive(Clone, Copy)]
 pub struct Place {
     pub x: f64,
     pub y: f64,
@@ -20,7 +20,7 @@ pub struct Place {
 }
 
 #[repr(C)]
-#[derive(Drop)]
+#[derive(Clone, Copy)]
 pub struct Ball {
     pub x: f64,
     pub y: f64,
@@ -29,7 +29,7 @@ pub struct Ball {
 }
 
 #[repr(C)]
-#[derive(Drop)]
+#[derive(Clone, Copy)]
 pub struct Bounds {
     pub z0: f64,
     pub z1: f64,
@@ -39,7 +39,7 @@ pub struct Bounds {
 
 // From (ax, ay, az) to (bx, by, bz).
 #[repr(C)]
-#[derive(Drop)]
+#[derive(Clone, Copy)]
 pub struct Bar {
     pub ax: f64,
     pub ay: f64,
@@ -52,7 +52,7 @@ pub struct Bar {
 
 // A hit and the number 0; or the number under which the call is turned down, and all else 0.
 #[repr(C)]
-#[derive(Drop)]
+#[derive(Clone, Copy)]
 pub struct Reply {
     pub distance: f64,
     pub witness_z: f64,
@@ -63,7 +63,7 @@ pub struct Reply {
 
 // The same with the counts and the mark.
 #[repr(C)]
-#[derive(Drop)]
+#[derive(Clone, Copy)]
 pub struct CylinderReply {
     pub distance: f64,
     pub witness_z: f64,

@@ -13,7 +13,7 @@ use walk::{CountedAnswer, Cylinder, Settings};
 // What every number of a builder's space is before the call.
 pub const BLANK: f64 = 100.0;
 
-#[derive(Drop)]
+#[derive(Clone, Copy)]
 pub enum Reply {
     Number(f64),
     // A distance, its witness's z and radius, and the witness's edge.

@@ -6,7 +6,7 @@ use libc::STDIN_FILENO;
 
 // What is read and not yet answered, the bytes of the buffer from start up to end; the next line, if
 // one is found, from `from` up to `to`; and whether the input has ended.
-#[derive(Drop)]
+#[derive(Clone, Copy)]
 pub struct Held {
     pub start: usize,
     pub end: usize,

@@ -21,6 +21,8 @@
 // where the walk was cut, else 0, in decimal; a verdict with 1, a collision, or 0; a builder with the
 // count of the numbers that it keeps, in decimal, and these, or with `damaged` where it changed any
 // other number of its space. What is turned down is `refused` and the number.
+#![tactic(auto)]
+
 ghost use Rattle.std.specs.Prelude.{◌≤◌, length};
 ghost use Rattle.replay.specs.Lines.{Within};
 ghost use Rattle.replay.specs.Replies.{kept};

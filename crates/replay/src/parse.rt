@@ -12,7 +12,7 @@ const MOST: u64 = 1024;
 
 // How many numbers the two lists have, the size of a builder's space, and whether the line is whole:
 // nothing is missing, and nothing follows.
-#[derive(Drop)]
+#[derive(Clone, Copy)]
 pub struct Query {
     pub kind: Kind,
     pub n: usize,
@@ -22,7 +22,7 @@ pub struct Query {
 }
 
 // The number of a field, and the index past it.
-#[derive(Drop)]
+#[derive(Clone, Copy)]
 struct Field {
     value: u64,
     next: usize,

@@ -4,14 +4,14 @@ ghost use Rattle.std.specs.Prelude.{◌≤◌};
 ghost use Rattle.replay.specs.Rows.{Fits};
 
 // A kind of one letter, or a verdict by the letter behind its `v`.
-#[derive(Drop)]
+#[derive(Clone, Copy)]
 pub enum Kind {
     Plain(u8),
     Verdict(u8),
 }
 
 // In this order: 0 to 2 lists, 0 to 16 numbers, and the size of a builder's space or none.
-#[derive(Drop)]
+#[derive(Clone, Copy)]
 pub struct Row {
     pub lists: usize,
     pub numbers: usize,

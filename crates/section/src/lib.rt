@@ -1,4 +1,6 @@
 // Half-sections: profiles, what is turned down, the builders; points, spheres, boxes and convex bodies beside them.
+#![tactic(auto)]
+
 mod aabb;
 mod boxes;
 mod builders;

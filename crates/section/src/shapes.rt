@@ -2,7 +2,7 @@
 use crate::profile::CollisionHit;
 
 // The answer of a query: a hit, or the number under which it is turned down.
-#[derive(Drop)]
+#[derive(Clone, Copy)]
 pub enum Answer {
     Hit(CollisionHit),
     Refused(u32),

@@ -1,4 +1,6 @@
 // The store of 40-byte records, as functions on bytes: its fields, its chain and its kinds; what it says; edits of it.
+#![tactic(auto)]
+
 mod answers;
 mod bytes;
 mod chain;

@@ -1,6 +1,8 @@
 // Lists many stores: standard input holds one after another, each behind its length in bytes, a
 // u32, little-endian; for each, standard output gets what the listing program writes for it. A
 // store that the input cuts short is what there is of it. A read that fails counts as the end.
+#![tactic(auto)]
+
 ghost use Rattle.std.specs.Prelude.{◌≡◌, ◌<◌};
 ghost use Rattle.store.specs.Bytes.{u32_at};
 

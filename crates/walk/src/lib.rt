@@ -1,4 +1,6 @@
 // Cylinders beside a half-section: their bands, the walk over the pieces of one across the spindle, the query.
+#![tactic(auto)]
+
 pub mod bands;
 pub mod cylinders;
 mod pieces;

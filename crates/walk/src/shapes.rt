@@ -3,7 +3,7 @@ use section::CollisionHit;
 
 // A hit with how many boxes were measured, the most pieces that waited at any one time, and
 // whether the walk was cut.
-#[derive(Drop)]
+#[derive(Clone, Copy)]
 pub struct CountedHit {
     pub hit: CollisionHit,
     pub boxes: usize,

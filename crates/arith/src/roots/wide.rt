@@ -4,7 +4,7 @@ ghost use Rattle.std.specs.Prelude.{◌≡◌, ◌+◌, ◌*◌, ◌/◌, ◌%�
 ghost use Rattle.arith.specs.roots.Steps.{AboutParts, Limbs, PartsOf, whole};
 
 // hi * 2^56 + lo
-#[derive(Drop)]
+#[derive(Clone, Copy)]
 pub struct Wide {
     pub hi: u64,
     pub lo: u64,
@@ -73,7 +73,7 @@ pub fn widened(m: u64) -> Wide
 }
 
 // h * 2^56 + m * 2^29 + l, carries left where they are
-#[derive(Drop)]
+#[derive(Clone, Copy)]
 pub struct Parts {
     pub h: u64,
     pub m: u64,

@@ -4,26 +4,26 @@ use section::CollisionHit;
 use walk::CountedHit;
 
 // A hit, and its witness lifted.
-#[derive(Drop)]
+#[derive(Clone, Copy)]
 pub struct LiftedHit {
     pub hit: CollisionHit,
     pub witness: Vec3,
 }
 
-#[derive(Drop)]
+#[derive(Clone, Copy)]
 pub enum Lifted {
     Hit(LiftedHit),
     Refused(u32),
 }
 
 // The same with the counts and the mark of a cylinder.
-#[derive(Drop)]
+#[derive(Clone, Copy)]
 pub struct LiftedCountedHit {
     pub hit: CountedHit,
     pub witness: Vec3,
 }
 
-#[derive(Drop)]
+#[derive(Clone, Copy)]
 pub enum LiftedCounted {
     Hit(LiftedCountedHit),
     Refused(u32),

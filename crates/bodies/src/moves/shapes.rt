@@ -2,7 +2,7 @@
 use arith::Vec3;
 
 // Offsets of a body's positions: at the start, at the end, and in how many steps.
-#[derive(Drop)]
+#[derive(Clone, Copy)]
 pub struct Travel {
     pub start: Vec3,
     pub end: Vec3,
@@ -11,7 +11,7 @@ pub struct Travel {
 
 // The smallest distance and the first step that has it; whether some step collides and the first that does, 0 if none;
 // the boxes measured in all steps.
-#[derive(Drop)]
+#[derive(Clone, Copy)]
 pub struct Report {
     pub distance: f64,
     pub step: u32,
@@ -21,7 +21,7 @@ pub struct Report {
 }
 
 // The report, or the number under which the call is turned down.
-#[derive(Drop)]
+#[derive(Clone, Copy)]
 pub enum MoveAnswer {
     Moved(Report),
     Refused(u32),

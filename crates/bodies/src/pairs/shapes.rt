@@ -2,7 +2,7 @@
 use walk::CountedHit;
 
 // The section that won, with what its own query gives; or the number under which the call is turned down.
-#[derive(Drop)]
+#[derive(Clone, Copy)]
 pub enum PairAnswer {
     Chuck(CountedHit),
     Work(CountedHit),

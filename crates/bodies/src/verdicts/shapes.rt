@@ -1,6 +1,6 @@
 // The answer of a verdict.
 
-#[derive(Drop)]
+#[derive(Clone, Copy)]
 pub enum Verdict {
     Clear,
     Collision,

@@ -2,7 +2,7 @@
 
 // Whether the cylinder collides; how many boxes were measured, the most pieces that waited at any one time, and whether the
 // walk was cut.
-#[derive(Drop)]
+#[derive(Clone, Copy)]
 pub struct JudgedWalk {
     pub collision: bool,
     pub boxes: usize,
@@ -10,7 +10,7 @@ pub struct JudgedWalk {
     pub cut: bool,
 }
 
-#[derive(Drop)]
+#[derive(Clone, Copy)]
 pub enum WalkVerdict {
     Judged(JudgedWalk),
     Refused(u32),

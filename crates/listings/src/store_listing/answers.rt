@@ -1,7 +1,7 @@
 // What listing a store answers.
 
 // How many bytes the listing has, or the refusal.
-#[derive(Drop)]
+#[derive(Clone, Copy)]
 pub enum ListAnswer {
     Bytes(usize),
     Refused(u32, u32),

@@ -11,7 +11,7 @@ use crate::profile::{Vertex, vertex_at};
 use crate::refusals::{any_below_axis, list_refusal};
 
 // The last vertex that is kept, (0, 0) while there is none, and how many are.
-#[derive(Drop)]
+#[derive(Clone, Copy)]
 pub struct Run {
     pub last: Vertex,
     pub count: usize,

@@ -2,7 +2,7 @@
 use crate::profile::Vertex;
 
 // The centre, and the corners in their order.
-#[derive(Drop)]
+#[derive(Clone, Copy)]
 pub struct Probes {
     pub centre: Vertex,
     pub c00: Vertex,
@@ -12,7 +12,7 @@ pub struct Probes {
 }
 
 // Whether an odd number of edges crosses the line from each probe along z, beyond it.
-#[derive(Drop)]
+#[derive(Clone, Copy)]
 pub struct Odd {
     pub centre: bool,
     pub c00: bool,
@@ -22,7 +22,7 @@ pub struct Odd {
 }
 
 // The least and the greatest radius of the probes, or -infinity and +infinity where they are not in order.
-#[derive(Drop)]
+#[derive(Clone, Copy)]
 pub struct Reach {
     pub lo: f64,
     pub hi: f64,

@@ -3,14 +3,14 @@ use arith::Vec3;
 
 // As C lays it out: a slice of vertices can be lent from there.
 #[repr(C)]
-#[derive(Drop)]
+#[derive(Clone, Copy)]
 pub struct Vertex {
     pub z: f64,
     pub r: f64,
 }
 
 // z from z0 to z1, radius from r0 to r1
-#[derive(Drop)]
+#[derive(Clone, Copy)]
 pub struct Aabb {
     pub z0: f64,
     pub z1: f64,
@@ -18,14 +18,14 @@ pub struct Aabb {
     pub r1: f64,
 }
 
-#[derive(Drop)]
+#[derive(Clone, Copy)]
 pub struct Sphere {
     pub center: Vec3,
     pub radius: f64,
 }
 
 // An edge of a profile: where it starts, where it ends, and its number, that of the vertex at its start.
-#[derive(Drop)]
+#[derive(Clone, Copy)]
 pub struct Edge {
     pub a: Vertex,
     pub b: Vertex,
@@ -33,7 +33,7 @@ pub struct Edge {
 }
 
 // A point of the section, and the number of the edge that supplied it.
-#[derive(Drop)]
+#[derive(Clone, Copy)]
 pub struct Witness {
     pub z: f64,
     pub r: f64,
@@ -41,7 +41,7 @@ pub struct Witness {
 }
 
 // A signed distance and its witness.
-#[derive(Drop)]
+#[derive(Clone, Copy)]
 pub struct CollisionHit {
     pub distance: f64,
     pub witness: Witness,

@@ -2,7 +2,7 @@
 use crate::profile::CollisionHit;
 
 // The part of a segment, from t0 to t1 of its length, that a box holds, if it holds any.
-#[derive(Drop)]
+#[derive(Clone, Copy)]
 pub struct Clip {
     pub any: bool,
     pub t0: f64,
@@ -10,14 +10,14 @@ pub struct Clip {
 }
 
 // How far along each of two segments they are closest.
-#[derive(Drop)]
+#[derive(Clone, Copy)]
 pub struct Places {
     pub s: f64,
     pub t: f64,
 }
 
 // A hit, and two legs: whatever is as far along both has no smaller distance.
-#[derive(Drop)]
+#[derive(Clone, Copy)]
 pub struct Near {
     pub hit: CollisionHit,
     pub z: f64,

@@ -1,20 +1,20 @@
 // Who edits, where, with what, and what an edit answers.
 
 // An operator works on bodies; vertices and links are the setter's.
-#[derive(Drop)]
+#[derive(Clone, Copy)]
 pub enum Role {
     Setter,
     Operator,
 }
 
 // A named record, or an add, which names none.
-#[derive(Drop)]
+#[derive(Clone, Copy)]
 pub enum Place {
     Record(u32),
     Add,
 }
 
-#[derive(Drop)]
+#[derive(Clone, Copy)]
 pub struct Edit {
     pub role: Role,
     pub place: Place,
@@ -22,7 +22,7 @@ pub struct Edit {
 }
 
 // The store's length in bytes afterwards, or the number under which the edit is turned down.
-#[derive(Drop)]
+#[derive(Clone, Copy)]
 pub enum EditAnswer {
     Length(usize),
     Refused(u32),

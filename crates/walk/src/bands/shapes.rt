@@ -2,7 +2,7 @@
 use arith::Vec3;
 
 // A flat-capped cylinder, from a to b.
-#[derive(Drop)]
+#[derive(Clone, Copy)]
 pub struct Cylinder {
     pub a: Vec3,
     pub b: Vec3,
@@ -10,7 +10,7 @@ pub struct Cylinder {
 }
 
 // A cylinder across the spindle: x from x0 to x1, its axis at yc and zc.
-#[derive(Drop)]
+#[derive(Clone, Copy)]
 pub struct RadialBand {
     pub x0: f64,
     pub x1: f64,
@@ -20,14 +20,14 @@ pub struct RadialBand {
 }
 
 // A least and a greatest radius.
-#[derive(Drop)]
+#[derive(Clone, Copy)]
 pub struct Span {
     pub lo: f64,
     pub hi: f64,
 }
 
 // The direction of a cylinder's axis, as far as it is told apart.
-#[derive(Drop)]
+#[derive(Clone, Copy)]
 pub enum Axis {
     Axial,
     AlongX,

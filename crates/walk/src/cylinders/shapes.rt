@@ -2,14 +2,14 @@
 use crate::CountedHit;
 use crate::bands::Axis;
 
-#[derive(Drop)]
+#[derive(Clone, Copy)]
 pub enum CountedAnswer {
     Hit(CountedHit),
     Refused(u32),
 }
 
 // A cylinder's axis, and the number under which a call with it is turned down; 0: none.
-#[derive(Drop)]
+#[derive(Clone, Copy)]
 pub struct CylinderCheck {
     pub axis: Axis,
     pub number: u32,

@@ -3,28 +3,28 @@ use crate::bands::Span;
 use section::CollisionHit;
 
 // A part of the cylinder's width, from z0 to z1.
-#[derive(Drop)]
+#[derive(Clone, Copy)]
 pub struct Piece {
     pub z0: f64,
     pub z1: f64,
 }
 
 // The spans at a piece's greatest and at its least half width.
-#[derive(Drop)]
+#[derive(Clone, Copy)]
 pub struct Spans {
     pub widest: Span,
     pub narrowest: Span,
 }
 
 // Half width and span at one z.
-#[derive(Drop)]
+#[derive(Clone, Copy)]
 pub struct Cross {
     pub rho: f64,
     pub span: Span,
 }
 
 // Half width and span at a piece's two ends, and at the axis.
-#[derive(Drop)]
+#[derive(Clone, Copy)]
 pub struct Ends {
     pub left: Cross,
     pub right: Cross,
@@ -32,7 +32,7 @@ pub struct Ends {
 }
 
 // The distance of a piece's box, and the piece's variation.
-#[derive(Drop)]
+#[derive(Clone, Copy)]
 pub struct Measured {
     pub hit: CollisionHit,
     pub variation: f64,
