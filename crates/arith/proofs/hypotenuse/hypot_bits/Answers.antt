@@ -1,0 +1,12 @@
+-- `arith::hypotenuse::hypot_bits`. The larger and the smaller operand are a and b in either order: the hypotenuse is the same.
+use Rattle.std.proofs.Common.{arith, rules}
+use Rattle.arith.proofs.roots.Root.HypotCore.{operands, either_way}
+use Rattle.arith.proofs.hypotenuse.hypot_bits.Goals as goal
+
+pub hypot_searched-requires : goal.hypot_searched-requires
+hypot_searched-requires c = operands _ _ _ _ (omega arith) (omega arith) c.larger-big.ensures
+    c.smaller-small.ensures
+
+pub returns : goal.returns
+returns c = either_way _ _ _ _ _ c.larger-big.ensures c.smaller-small.ensures
+    c.hypot_searched.ensures

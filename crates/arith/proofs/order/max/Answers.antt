@@ -1,0 +1,8 @@
+-- `arith::order::max` meets its contract.
+use Rattle.arith.proofs.order.max.Goals as goal
+
+pub returns-then-a-b : goal.returns-then-a-b
+returns-then-a-b c = rw c.if-a-b.true
+
+pub returns-else-a-b : goal.returns-else-a-b
+returns-else-a-b c = rw c.if-a-b.false

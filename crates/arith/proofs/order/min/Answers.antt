@@ -1,0 +1,8 @@
+-- `arith::order::min` meets its contract.
+use Rattle.arith.proofs.order.min.Goals as goal
+
+pub returns-then-a-b : goal.returns-then-a-b
+returns-then-a-b c = rw c.if-a-b.true
+
+pub returns-else-a-b : goal.returns-else-a-b
+returns-else-a-b c = rw c.if-a-b.false

@@ -1,0 +1,6 @@
+-- `bodies::moves::placement::offset_at` meets its contract.
+use borrow.Author.Rules.{rules}
+use Rattle.bodies.proofs.moves.placement.offset_at.Goals as goal
+
+pub returns : goal.returns
+returns c = rw (c.offset.ensures, c.offset-2.ensures, c.offset-3.ensures)

@@ -1,0 +1,9 @@
+-- `bodies::pairs::pairs::uncounted` meets its contract: by the case of the answer.
+use borrow.Author.Rules.{rules}
+use Rattle.bodies.proofs.pairs.pairs.uncounted.Goals as goal
+
+pub returns-in-Refused : goal.returns-in-Refused
+returns-in-Refused c = rw c.answer-1.given.1
+
+pub returns-in-Hit : goal.returns-in-Hit
+returns-in-Hit c = rw c.answer-in-Hit-1.given.1

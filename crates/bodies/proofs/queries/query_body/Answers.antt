@@ -1,0 +1,15 @@
+-- `bodies::queries::query_body` meets its contract: by the kind of the body.
+use borrow.Author.Rules.{rules}
+use Rattle.bodies.specs.Bodies.{body_answer}
+use Rattle.walk.specs.cylinders.Cylinders.{cylinder_answer}
+use Rattle.bodies.proofs.queries.query_body.Goals as goal
+
+pub returns-in-Sphere : goal.returns-in-Sphere
+returns-in-Sphere c = rw c.body-1.given.1 c.query_sphere.ensures
+
+pub returns-in-Box : goal.returns-in-Box
+returns-in-Box c = rw c.body-in-Box-1.given.1 c.query_box.ensures
+
+pub returns-in-Cylinder : goal.returns-in-Cylinder
+unfolding body_answer cylinder_answer
+returns-in-Cylinder c = rw c.body-in-Cylinder-1.given.1 c.query_cylinder.ensures

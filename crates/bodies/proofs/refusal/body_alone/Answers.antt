@@ -1,0 +1,12 @@
+-- `bodies::refusal::body_alone` meets its contract.
+use borrow.Author.Rules.{rules}
+use Rattle.bodies.proofs.refusal.body_alone.Goals as goal
+
+pub returns-in-Sphere : goal.returns-in-Sphere
+returns-in-Sphere c = rw c.body-1.given.1 c.sphere_alone.ensures
+
+pub returns-in-Box : goal.returns-in-Box
+returns-in-Box c = rw c.body-in-Box-1.given.1 c.box_alone.ensures
+
+pub returns-in-Cylinder : goal.returns-in-Cylinder
+returns-in-Cylinder c = rw c.body-in-Cylinder-1.given.1 c.cylinder_alone.ensures

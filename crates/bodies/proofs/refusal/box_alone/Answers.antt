@@ -1,0 +1,8 @@
+-- `bodies::refusal::box_alone` meets its contract.
+use borrow.Author.Rules.{rules}
+use Rattle.section.specs.profile.Refusals.{number_tests}
+use Rattle.bodies.proofs.Alone.{then_own}
+use Rattle.bodies.proofs.refusal.box_alone.Goals as goal
+
+pub returns : goal.returns
+returns c = then_own (number_tests _) _ tt c.alone_refusal.ensures c.bounds_refusal.ensures

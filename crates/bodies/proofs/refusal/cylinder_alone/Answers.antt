@@ -1,0 +1,10 @@
+-- `bodies::refusal::cylinder_alone` meets its contract.
+use borrow.Author.Rules.{rules}
+use Rattle.section.specs.profile.Refusals.{number_tests}
+use Rattle.bodies.proofs.Alone.{then_own}
+use Rattle.bodies.proofs.refusal.cylinder_alone.Goals as goal
+
+pub returns : goal.returns
+returns c =
+    rw (← c.axis_of-axis.ensures)
+    (then_own (number_tests _) _ tt c.alone_refusal.ensures c.own_refusal.ensures)

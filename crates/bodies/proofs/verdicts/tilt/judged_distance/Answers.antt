@@ -1,0 +1,6 @@
+-- `bodies::verdicts::tilt::judged_distance` meets its contract: by the kind.
+use borrow.Author.Rules.{rules}
+use Rattle.bodies.proofs.verdicts.tilt.judged_distance.Goals as goal
+
+pub returns-in-Cylinder : goal.returns-in-Cylinder
+returns-in-Cylinder c = rw (c.body-1.given.1, ← c.axis_of.ensures) c.less_tilt.ensures

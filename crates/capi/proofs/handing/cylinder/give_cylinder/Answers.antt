@@ -1,0 +1,19 @@
+-- `capi::handing::cylinder::give_cylinder` meets its contract, by the answer's case.
+use borrow.Author.Rules.{rules}
+use mathlib.Core.Path.{ap, sym}
+use Rattle.walk.specs.cylinders.Cylinders.{told}
+use Rattle.capi.proofs.handing.Same.{gives}
+use Rattle.capi.proofs.handing.cylinder.give_cylinder.Goals as goal
+
+pub give_counted-requires : goal.give_counted-requires
+give_counted-requires c =
+    rw c.answer-1.given.1 at c.requires
+
+pub returns-in-Hit : goal.returns-in-Hit
+returns-in-Hit c =
+    gives (sym (ap told c.answer-1.given.1)) c.give_counted.ensures
+
+pub returns-in-Refused : goal.returns-in-Refused
+returns-in-Refused c =
+    let t = c.answer-in-Refused-1.given.1 in
+    record { returned = rw t; lent = rw t }

@@ -1,0 +1,12 @@
+-- `capi::handing::verdict::judge` meets its contract, by the verdict's case.
+use borrow.Author.Rules.{rules}
+use Rattle.capi.proofs.handing.verdict.judge.Goals as goal
+
+pub returns-in-Clear : goal.returns-in-Clear
+returns-in-Clear c = let told = c.enum_told-1.given.1 in record { returned = rw told; lent = rw told }
+
+pub returns-in-Collision : goal.returns-in-Collision
+returns-in-Collision c = let told = c.enum_told-in-Collision-1.given.1 in record { returned = rw told; lent = rw told }
+
+pub returns-in-Refused : goal.returns-in-Refused
+returns-in-Refused c = let told = c.verdict-1.given.1 in record { returned = rw told; lent = rw told }

@@ -1,0 +1,15 @@
+-- `capi::lifting::jorghipa_lifted_cylinder` meets its contract: the answer's case in the lent places; the counts fit by demand 3.
+use borrow.Author.Rules.{rules}
+use lib.Dec.{lit≤}
+use Rattle.capi.proofs.handing.Fits.{promised_fits}
+use Rattle.capi.proofs.handing.Same.{measures, owes}
+use Rattle.capi.proofs.lifting.jorghipa_lifted_cylinder.Goals as goal
+
+pub give_lifted_cylinder-requires : goal.give_lifted_cylinder-requires
+give_lifted_cylinder-requires c =
+    owes (λ h p. promised_fits h.hit (lit≤ tt) p.plain)
+    c.lifted_cylinder-answer.ensures
+
+pub returns : goal.returns
+returns c =
+    measures c.lifted_cylinder-answer.ensures c.give_lifted_cylinder.ensures

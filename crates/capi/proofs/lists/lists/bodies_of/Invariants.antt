@@ -1,0 +1,17 @@
+-- `capi::lists::lists::bodies_of` meets its contract: the first i bodies are read.
+use Prim.Native.Nat.{ℕ, ◌≤◌, ◌-◌, ◌*◌}
+use native.Mathlib.Nat.{le_antisymm, le_of_eq, le_trans, lt_of_lt_of_le}
+use mathlib.Core.Path.{◌≡◌, ap, sym, ◌∙◌}
+use lib.ListN.{length, take, length-set}
+use borrow.Author.Rules.{rules}
+use Rattle.capi.specs.lists.Lists.{bodies_of}
+use Rattle.capi.proofs.lists.BodiesRead.{read_more}
+use Rattle.capi.proofs.lists.lists.bodies_of.Given as goal
+
+abbrev pub invariant-loop-i : goal.invariant-loop-i
+invariant-loop-i l =
+    (l.i ≤ l.n) × (l.n ≤ length l.kinds) × (l.n ≤ length l.bodies) × (length l.numbers ≡ 7 * length l.kinds) × (length l.bodies ≡ 64)
+    × (take l.i l.bodies ≡ take l.i (bodies_of l.kinds l.numbers))
+
+abbrev pub decreases-loop-i : goal.decreases-loop-i
+decreases-loop-i l = l.n - l.i

@@ -1,0 +1,7 @@
+-- `capi::verdict::jorghipa_verdict_convex` meets its contract: the verdict's case in the lent place.
+use borrow.Author.Rules.{rules}
+use Rattle.capi.proofs.handing.Same.{gives}
+use Rattle.capi.proofs.verdict.jorghipa_verdict_convex.Goals as goal
+
+pub returns : goal.returns
+returns c = gives c.verdict_convex-verdict.ensures c.judge.ensures

@@ -1,0 +1,13 @@
+-- `listing::main` is safe and ends: the listing lies within its array.
+use native.Mathlib.Omega.{arith}
+use lib.ListN.{length-take}
+use Rattle.listings.proofs.store_listing.Listed.{front_within}
+use borrow.Author.Rules.{rules}
+use Rattle.listing.proofs.main.Goals as goal
+
+pub slice_bounds-text-end : goal.slice_bounds-text-end
+slice_bounds-text-end c = front_within c.list_input-n.ensures
+
+pub slice_bounds-write_all-end : goal.slice_bounds-write_all-end
+slice_bounds-write_all-end c =
+    simp length-take (omega (arith, front_within c.list_input-n.ensures))

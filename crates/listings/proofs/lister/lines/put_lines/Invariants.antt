@@ -1,0 +1,20 @@
+-- `listings::lister::lines::put_lines`. One record has its line in a turn.
+use Prim.Native.Nat.{◌-◌, ◌≤◌}
+use mathlib.Core.List.{flat_map}
+use mathlib.Core.Path.{◌≡◌, refl}
+use lib.ListN.{length, take}
+use lib.Seq.{take_all}
+use Rattle.listings.specs.store_listing.Listing.{record_line}
+use Rattle.listings.specs.store_listing.Steps.{Written}
+use Rattle.listings.proofs.store_listing.Pieces.{line_room, line_more}
+use Rattle.listings.proofs.store_listing.Writing.{nothing_written}
+use borrow.Author.Rules.{rules}
+use Rattle.listings.proofs.lister.lines.put_lines.Given as goal
+
+abbrev pub invariant-loop-i : goal.invariant-loop-i
+invariant-loop-i l =
+    (l.i ≤ length l.order) × (length l.text ≡ length l.initial.text) × Written l.initial.text l.from (flat_map (record_line l.store l.s) (take l.i l.order))
+    l.text l.at
+
+abbrev pub decreases-loop-i : goal.decreases-loop-i
+decreases-loop-i l = length l.order - l.i

@@ -1,0 +1,27 @@
+-- `listings::lister::lines::put_section_line`. Three pieces, one behind the other; the line's length is the sum of theirs.
+use native.Mathlib.Omega.{arith}
+use lib.ListN.{length-append}
+use Rattle.listings.specs.store_listing.Text.{text}
+use Rattle.listings.specs.store_listing.Listing.{section_line}
+use Rattle.listings.proofs.store_listing.Writing.{then}
+use borrow.Author.Rules.{rules}
+use Rattle.listings.proofs.lister.lines.put_section_line.Goals as goal
+
+pub put_word-a-requires : goal.put_word-a-requires
+unfolding section_line text
+put_word-a-requires c = omega (arith, simp length-append at c.requires)
+
+pub put_decimal-b-requires : goal.put_decimal-b-requires
+unfolding section_line text
+put_decimal-b-requires c =
+    omega (arith, simp length-append at c.requires)
+
+pub put_word-requires : goal.put_word-requires
+unfolding section_line text
+put_word-requires c =
+    omega (arith, simp length-append at c.requires)
+
+pub returns : goal.returns
+unfolding section_line text
+returns c =
+    then (then c.put_word-a.ensures c.put_decimal-b.ensures) c.put_word.ensures

@@ -1,0 +1,62 @@
+-- `listings::lister::listing::list_store`. Accepted, the order and the space begin with what the listing is made of.
+use native.Mathlib.Omega.{arith}
+use lib.ListN.{length-take}
+use Rattle.listings.proofs.store_listing.Listed.{not_listed, listing_room, listed}
+use Rattle.store.proofs.Reading.{refused_first, decided_second}
+use borrow.Author.Rules.{rules}
+use Rattle.listings.proofs.lister.listing.list_store.Goals as goal
+
+pub slice_bounds-order-end : goal.slice_bounds-order-end
+slice_bounds-order-end c =
+    omega (arith, (c.read_chain-chained.ensures.accepted _ c.chained-in-Front-1.given.1).small)
+
+pub slice_bounds-read_section-end : goal.slice_bounds-read_section-end
+slice_bounds-read_section-end c =
+    simp length-take (omega (arith, (c.read_chain-chained.ensures.accepted _ c.chained-in-Front-1.given.1).small))
+
+pub read_section-section-requires : goal.read_section-section-requires
+read_section-section-requires c =
+    record {
+      room = search rules;
+      few = simp length-take (omega (arith, (c.read_chain-chained.ensures.accepted _ c.chained-in-Front-1.given.1).small));
+    }
+
+pub slice_bounds-space-end : goal.slice_bounds-space-end
+slice_bounds-space-end c =
+    omega (arith, (c.read_section-section.ensures.accepted _ c.section-in-Front-section-1.given.1).small)
+
+pub slice_bounds-put_accepted-end : goal.slice_bounds-put_accepted-end
+slice_bounds-put_accepted-end c =
+    simp length-take (omega (arith, (c.read_section-section.ensures.accepted _ c.section-in-Front-section-1.given.1).small))
+
+pub slice_bounds-order-end-in-Front-section : goal.slice_bounds-order-end-in-Front-section
+slice_bounds-order-end-in-Front-section c =
+    omega (arith, (c.read_chain-chained.ensures.accepted _ c.chained-in-Front-1.given.1).small)
+
+pub slice_bounds-put_accepted-end-in-Front-section : goal.slice_bounds-put_accepted-end-in-Front-section
+slice_bounds-put_accepted-end-in-Front-section c =
+    simp length-take (omega (arith, (c.read_chain-chained.ensures.accepted _ c.chained-in-Front-1.given.1).small))
+
+pub put_accepted-bytes-requires : goal.put_accepted-bytes-requires
+put_accepted-bytes-requires c =
+    let chain = c.read_chain-chained.ensures.accepted _ c.chained-in-Front-1.given.1 in
+    let section = c.read_section-section.ensures.accepted _ c.section-in-Front-section-1.given.1 in
+    listing_room _ (decided_second _ chain.good chain.front section.good) chain.front section.front
+    c.args.text.now c.put_accepted-arg-1.given.0.1
+
+pub returns-in-Refused : goal.returns-in-Refused
+returns-in-Refused c =
+    not_listed _ _ (refused_first _ (c.read_chain-chained.ensures.refused _ _ c.chained-1.given.1))
+
+pub returns-in-Refused-section : goal.returns-in-Refused-section
+returns-in-Refused-section c =
+    let chain = c.read_chain-chained.ensures.accepted _ c.chained-in-Front-1.given.1 in
+    not_listed _ _ (decided_second _ chain.good chain.front (c.read_section-section.ensures.refused _ _
+    c.section-1.given.1))
+
+pub returns-in-Front-section : goal.returns-in-Front-section
+returns-in-Front-section c =
+    let chain = c.read_chain-chained.ensures.accepted _ c.chained-in-Front-1.given.1 in
+    let section = c.read_section-section.ensures.accepted _ c.section-in-Front-section-1.given.1 in
+    listed _ (decided_second _ chain.good chain.front section.good) chain.front section.front _
+    c.put_accepted-arg-1.given.0.1 c.put_accepted-bytes.ensures

@@ -1,0 +1,10 @@
+-- `listings::store_listing::text::digit` meets its contract.
+use borrow.Author.Tests.{lt-ltb, le-ltb}
+use borrow.Author.Rules.{rules}
+use Rattle.listings.proofs.store_listing.text.digit.Goals as goal
+
+pub returns-then-d-lt10 : goal.returns-then-d-lt10
+returns-then-d-lt10 c = rw (lt-ltb _ _ c.if-d-lt10.true)
+
+pub returns : goal.returns
+returns c = rw (le-ltb _ _ c.if-d-lt10.false)

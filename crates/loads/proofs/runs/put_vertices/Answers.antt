@@ -1,0 +1,24 @@
+-- `loads::runs::put_vertices`. Two states go into a vertex in a turn.
+use Prim.Native.Nat.{◌-◌, ◌*◌, ◌≤◌}
+use native.Mathlib.Omega.{arith}
+use mathlib.Core.Path.{◌≡◌, refl}
+use lib.ListN.{length}
+use Rattle.loads.specs.Xorshift.{state_after}
+use Rattle.loads.specs.Load.{load_vertices}
+use Rattle.loads.specs.Steps.{Drawn}
+use Rattle.loads.proofs.Putting.{vertices_none, vertices_more, vertices_end}
+use borrow.Author.Rules.{rules}
+use Rattle.loads.proofs.runs.put_vertices.Goals as goal
+
+pub loop-i-init : goal.loop-i-init
+loop-i-init c = (search rules, refl, vertices_none _ _)
+
+pub put_vertex-state-requires : goal.put_vertex-state-requires
+put_vertex-state-requires c = (omega arith, omega arith)
+
+pub loop-i-preserved : goal.loop-i-preserved
+loop-i-preserved c =
+    (search rules, search rules, vertices_more _ _ c.loop-i.invariant.2 c.put_vertex-state.ensures)
+
+pub returns : goal.returns
+returns c = vertices_end _ _ _ c.loop-i.invariant.0 c.loop-i-test.false c.loop-i.invariant.2

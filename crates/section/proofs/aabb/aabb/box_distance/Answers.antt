@@ -1,0 +1,6 @@
+-- `section::aabb::aabb::box_distance` meets its contract.
+use borrow.Author.Rules.{rules}
+use Rattle.section.proofs.aabb.aabb.box_distance.Goals as goal
+
+pub returns : goal.returns
+returns c = c.box_distance_near.ensures

@@ -1,0 +1,21 @@
+-- `section::aabb::aabb::box_witness` meets its contract: a fold.
+use Prim.Native.Nat.{◌≤◌, ◌-◌}
+use native.Mathlib.Omega.{arith}
+use mathlib.Core.Bool.{cond}
+use mathlib.Core.Path.{◌≡◌, refl}
+use borrow.Author.Rules.{rules}
+use Rattle.section.specs.profile.Vertices.{on, vertex_at, upto}
+use Rattle.section.specs.boxes.Boxes.{strictly_inside_aabb, box_witness}
+use Rattle.section.proofs.profile.Fold.{upto_more, upto_end}
+use Rattle.section.proofs.aabb.aabb.box_witness.Goals as goal
+
+pub loop-k-init : goal.loop-k-init
+unfolding upto
+loop-k-init c = (search rules, refl)
+
+pub loop-k-preserved : goal.loop-k-preserved
+loop-k-preserved c = (search rules, upto_more _ _ _ c.loop-k.invariant.1 c.witness_at-at.ensures)
+
+pub returns : goal.returns
+unfolding box_witness
+returns c = upto_end _ _ _ c.loop-k.invariant.1 _ (omega arith)

@@ -1,0 +1,17 @@
+-- `section::aabb::aabb::box_witness` meets its contract: a fold.
+use Prim.Native.Nat.{◌≤◌, ◌-◌}
+use native.Mathlib.Omega.{arith}
+use mathlib.Core.Bool.{cond}
+use mathlib.Core.Path.{◌≡◌, refl}
+use borrow.Author.Rules.{rules}
+use Rattle.section.specs.profile.Vertices.{on, vertex_at, upto}
+use Rattle.section.specs.boxes.Boxes.{strictly_inside_aabb, box_witness}
+use Rattle.section.proofs.profile.Fold.{upto_more, upto_end}
+use Rattle.section.proofs.aabb.aabb.box_witness.Given as goal
+
+abbrev pub invariant-loop-k : goal.invariant-loop-k
+invariant-loop-k l =
+    (l.k ≤ l.n) × (l.at ≡ upto (λ j l.at. cond (strictly_inside_aabb l.x (vertex_at l.s j)) (on j (vertex_at l.s j)) l.at) l.initial.at l.k)
+
+abbrev pub decreases-loop-k : goal.decreases-loop-k
+decreases-loop-k l = l.n - l.k

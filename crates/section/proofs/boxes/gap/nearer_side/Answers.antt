@@ -1,0 +1,25 @@
+-- `section::boxes::gap::nearer_side` meets its contract.
+use mathlib.Core.Path.{◌≡◌}
+use Rattle.section.proofs.ranges.Apart.{gap_plus}
+use Rattle.section.proofs.boxes.Passed.{side_passed}
+use borrow.Author.Rules.{rules}
+use Rattle.section.proofs.boxes.gap.nearer_side.Goals as goal
+
+pub hopeless-requires : goal.hopeless-requires
+hopeless-requires c =
+    (rw c.gap_between-z.ensures (gap_plus _ _), rw c.gap_between-r.ensures (gap_plus _ _), c.requires.1)
+
+pub returns-then-hopeless : goal.returns-then-hopeless
+returns-then-hopeless c =
+    record {
+      hit = rw (side_passed _ _ _ _ _ _ _ c.requires.0
+          (rw (c.gap_between-z.ensures, c.gap_between-r.ensures) at
+          (c.hopeless.ensures c.if-hopeless.true)));
+      legs = c.requires.1;
+    }
+
+pub seg_seg_point_on_first-requires : goal.seg_seg_point_on_first-requires
+seg_seg_point_on_first-requires c = c.requires.1
+
+pub returns : goal.returns
+returns c = c.seg_seg_point_on_first.ensures

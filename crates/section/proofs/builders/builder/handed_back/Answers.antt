@@ -1,0 +1,9 @@
+-- `section::builders::builder::handed_back` meets its contract: by the case of the answer.
+use borrow.Author.Rules.{rules}
+use Rattle.section.proofs.builders.builder.handed_back.Goals as goal
+
+pub returns-in-Numbers : goal.returns-in-Numbers
+returns-in-Numbers c = rw c.answer-1.given.1
+
+pub returns-in-Refused : goal.returns-in-Refused
+returns-in-Refused c = rw c.enum_told-1.given.1

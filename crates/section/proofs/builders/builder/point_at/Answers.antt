@@ -1,0 +1,6 @@
+-- `section::builders::builder::point_at` meets its contract.
+use borrow.Author.Rules.{rules}
+use Rattle.section.proofs.builders.builder.point_at.Goals as goal
+
+pub returns : goal.returns
+returns c = rw (c.max.ensures, c.vertex_at-v.ensures)

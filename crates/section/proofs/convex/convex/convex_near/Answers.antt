@@ -1,0 +1,23 @@
+-- `section::convex::convex::convex_near` meets its contract: a fold.
+use Prim.Native.Nat.{◌≤◌, ◌-◌}
+use native.Mathlib.Omega.{arith}
+use mathlib.Core.Path.{◌≡◌}
+use borrow.Author.Rules.{rules}
+use Rattle.arith.specs.F64.{∞}
+use Rattle.arith.specs.Num.{min}
+use Rattle.section.specs.profile.Vertices.{edge_at, upto}
+use Rattle.section.specs.segments.Segments.{closest}
+use Rattle.section.specs.convex.Convex.{convex_near}
+use Rattle.section.proofs.profile.Fold.{upto_more, upto_end}
+use Rattle.section.proofs.convex.convex.convex_near.Goals as goal
+
+pub loop-k-init : goal.loop-k-init
+unfolding upto
+loop-k-init c = (search rules, c.infinity-best.ensures)
+
+pub loop-k-preserved : goal.loop-k-preserved
+loop-k-preserved c = (search rules, upto_more _ _ _ c.loop-k.invariant.1 c.closer_edge-best.ensures)
+
+pub returns : goal.returns
+unfolding convex_near
+returns c = upto_end _ _ _ c.loop-k.invariant.1 _ (omega arith)

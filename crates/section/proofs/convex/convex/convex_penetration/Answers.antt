@@ -1,0 +1,22 @@
+-- `section::convex::convex::convex_penetration` meets its contract: a fold, from the deepest convex vertex on.
+use Prim.Native.Nat.{◌≤◌, ◌-◌}
+use native.Mathlib.Omega.{arith}
+use mathlib.Core.Path.{◌≡◌, refl}
+use borrow.Author.Rules.{rules}
+use Rattle.section.specs.profile.Vertices.{on, hit, vertex_at, upto, nearest_of}
+use Rattle.section.specs.convex.Convex.{signed_distance_convex, convex_penetration}
+use Rattle.section.proofs.profile.Fold.{upto_more, upto_end}
+use Rattle.section.proofs.convex.convex.convex_penetration.Goals as goal
+
+pub loop-j-init : goal.loop-j-init
+unfolding upto
+loop-j-init c = (search rules, refl)
+
+pub loop-j-preserved : goal.loop-j-preserved
+loop-j-preserved c = (search rules, upto_more _ _ _ c.loop-j.invariant.1 c.deeper_vertex-best.ensures)
+
+pub returns : goal.returns
+unfolding convex_penetration
+returns c =
+    rw (← c.deepest_corner-best.ensures)
+    (upto_end _ _ _ c.loop-j.invariant.1 _ (omega arith))

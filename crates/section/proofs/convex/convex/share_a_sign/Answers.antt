@@ -1,0 +1,42 @@
+-- `section::convex::convex::share_a_sign` meets its contract: each flag says whether a cross product of an edge below k
+-- lies on its side, and not both are set.
+use Prim.Native.Nat.{◌≤◌, ◌-◌}
+use native.Mathlib.Omega.{arith}
+use mathlib.Core.Bool.{false, ◌&&◌}
+use mathlib.Core.Path.{◌≡◌, refl}
+use lib.Ieee.{neg}
+use borrow.Author.Rules.{rules}
+use Rattle.arith.specs.F64.{◌≺◌, e_9}
+use Rattle.section.specs.profile.Vertices.{vertex_at, end_at, any}
+use Rattle.section.specs.convex.Convex.{orient, point_in_convex}
+use Rattle.section.proofs.convex.Flags.{flag_more, both_set, not_both_set}
+use Rattle.section.proofs.convex.convex.share_a_sign.Goals as goal
+
+pub loop-k-init : goal.loop-k-init
+unfolding any
+loop-k-init c = (search rules, refl, refl, refl)
+
+pub returns-then-left-right : goal.returns-then-left-right
+unfolding point_in_convex
+returns-then-left-right c =
+    let before = c.loop-k.invariant in
+    both_set _ _ _ _
+    (flag_more _ _ before.1 (rw c.orient_at-cross.ensures))
+    (flag_more _ _ before.2 (rw c.orient_at-cross.ensures))
+    (omega arith)
+    c.if-left-right.true
+
+pub loop-k-preserved : goal.loop-k-preserved
+loop-k-preserved c =
+    let before = c.loop-k.invariant in (
+      search rules,
+      flag_more _ _ before.1 (rw c.orient_at-cross.ensures),
+      flag_more _ _ before.2 (rw c.orient_at-cross.ensures),
+      c.if-left-right.false,
+    )
+
+pub returns : goal.returns
+unfolding point_in_convex
+returns c =
+    let inv = c.loop-k.invariant in
+    not_both_set _ _ _ _ inv.1 inv.2 (omega arith) inv.3

@@ -1,0 +1,17 @@
+-- `section::points::near::surface_few` meets its contract: a fold.
+use Prim.Native.Nat.{◌≤◌, ◌-◌}
+use native.Mathlib.Omega.{arith}
+use mathlib.Core.Path.{◌≡◌, refl}
+use borrow.Author.Rules.{rules}
+use Rattle.section.specs.profile.Vertices.{upto}
+use Rattle.section.proofs.profile.Fold.{upto_more, upto_end}
+use Rattle.section.specs.segments.Legs.{Legs}
+use Rattle.section.specs.points.Points.{surface_step}
+use Rattle.section.proofs.points.Surface.{stepped}
+use Rattle.section.proofs.points.near.surface_few.Given as goal
+
+abbrev pub invariant-loop-k : goal.invariant-loop-k
+invariant-loop-k l = (l.k ≤ l.n) × (l.best.hit ≡ upto (surface_step l.s l.p) l.initial.best.hit l.k) × Legs l.best
+
+abbrev pub decreases-loop-k : goal.decreases-loop-k
+decreases-loop-k l = l.n - l.k

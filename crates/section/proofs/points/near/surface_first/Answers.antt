@@ -1,0 +1,14 @@
+-- `section::points::near::surface_first` meets its contract.
+use mathlib.Core.Path.{◌∙◌, ap}
+use borrow.Author.Rules.{rules}
+use Rattle.section.specs.points.Points.{surface_step}
+use Rattle.section.proofs.points.Surface.{stepped}
+use Rattle.section.proofs.points.near.surface_first.Goals as goal
+
+pub returns : goal.returns
+returns c = (
+  stepped _ _ _ _ _ c.edge_at-edge.ensures
+      c.edge_is_surface.ensures c.surface_edge.ensures.0
+      ∙ ap (surface_step _ _ _) (c.legless.ensures.0 ∙ c.no_edge.ensures),
+  c.surface_edge.ensures.1,
+)

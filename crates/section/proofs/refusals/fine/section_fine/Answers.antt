@@ -1,0 +1,42 @@
+-- `section::refusals::fine::section_fine` meets its contract: the vertices tried so far are fine.
+use Prim.Native.Nat.{◌≤◌, ◌*◌, ◌-◌}
+use native.Mathlib.Omega.{arith}
+use mathlib.Core.Bool.{false}
+use mathlib.Core.Path.{◌≡◌, refl, sym}
+use lib.Ieee.{neg}
+use lib.ListN.{drop}
+use borrow.Author.Rules.{rules}
+use Rattle.arith.specs.F64.{◌≺◌, e_9}
+use Rattle.arith.proofs.Laws.OrderHeld.{true→T}
+use Rattle.section.specs.profile.Refusals.{any_below_axis, any_of}
+use Rattle.section.specs.profile.Steps.{beyond_limit}
+use Rattle.section.specs.profile.Vertices.{any, vertex_at}
+use Rattle.section.proofs.profile.Fold.{any_end, any_more}
+use Rattle.section.proofs.profile.Refusals.AnyOf.{any_of_pairs_end, any_of_two}
+use Rattle.section.proofs.refusals.fine.section_fine.Goals as goal
+
+pub returns-then-s-eq1 : goal.returns-then-s-eq1
+returns-then-s-eq1 c = λ t. absurd (true→T t)
+
+pub loop-k-init : goal.loop-k-init
+unfolding any
+loop-k-init c = (search rules, refl, refl)
+
+pub loop-k-preserved : goal.loop-k-preserved
+loop-k-preserved c =
+    let fine = c.vertex_fine.ensures c.if-vertex_fine.true in
+    let inv = c.loop-k.invariant in (
+      search rules,
+      any_of_two _ _ _ inv.1 (search rules) fine.z_within fine.r_within,
+      any_more _ _ inv.2 refl fine.over,
+    )
+
+pub returns-else-vertex_fine : goal.returns-else-vertex_fine
+returns-else-vertex_fine c = λ t. absurd (true→T t)
+
+pub returns : goal.returns
+unfolding any_below_axis
+returns c = λ t. record {
+  within = any_of_pairs_end _ _ _ c.loop-k.invariant.1 c.if-s-eq1.false c.loop-k-test.false;
+  over = sym (any_end _ _ c.loop-k.invariant.2 _ (omega arith));
+}

@@ -1,0 +1,23 @@
+-- `section::refusals::fine::section_fine` meets its contract: the vertices tried so far are fine.
+use Prim.Native.Nat.{◌≤◌, ◌*◌, ◌-◌}
+use native.Mathlib.Omega.{arith}
+use mathlib.Core.Bool.{false}
+use mathlib.Core.Path.{◌≡◌, refl, sym}
+use lib.Ieee.{neg}
+use lib.ListN.{drop}
+use borrow.Author.Rules.{rules}
+use Rattle.arith.specs.F64.{◌≺◌, e_9}
+use Rattle.arith.proofs.Laws.OrderHeld.{true→T}
+use Rattle.section.specs.profile.Refusals.{any_below_axis, any_of}
+use Rattle.section.specs.profile.Steps.{beyond_limit}
+use Rattle.section.specs.profile.Vertices.{any, vertex_at}
+use Rattle.section.proofs.profile.Fold.{any_end, any_more}
+use Rattle.section.proofs.profile.Refusals.AnyOf.{any_of_pairs_end, any_of_two}
+use Rattle.section.proofs.refusals.fine.section_fine.Given as goal
+
+abbrev pub invariant-loop-k : goal.invariant-loop-k
+invariant-loop-k l =
+    (l.k ≤ l.n) × (any_of beyond_limit (drop (l.k * 2) l.s) ≡ any_of beyond_limit l.s) × (any (λ j. (vertex_at l.s j).r ≺ neg e_9) l.k ≡ false)
+
+abbrev pub decreases-loop-k : goal.decreases-loop-k
+decreases-loop-k l = l.n - l.k

@@ -1,0 +1,11 @@
+-- `section::refusals::refusal::radius_refusal` meets its contract.
+use Rattle.section.specs.profile.Refusals.{refusal}
+use Rattle.section.proofs.refusals.refusal.radius_refusal.Goals as goal
+
+pub returns-then-radius : goal.returns-then-radius
+unfolding refusal
+returns-then-radius c = rw c.if-radius.true
+
+pub returns-else-radius : goal.returns-else-radius
+unfolding refusal
+returns-else-radius c = rw c.if-radius.false

@@ -1,0 +1,7 @@
+-- `store::chain::visit`. One store, and one read.
+use mathlib.Core.Path.{refl}
+use borrow.Author.Rules.{rules}
+use Rattle.store.proofs.chain.visit.Goals as goal
+
+pub returns : goal.returns
+returns c = record { marked = refl; read = c.next_of.ensures }

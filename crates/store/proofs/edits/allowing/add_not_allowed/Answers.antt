@@ -1,0 +1,12 @@
+-- `store::edits::allowing::add_not_allowed` meets its contract.
+use Rattle.store.specs.edits.Edits.{not_allowed}
+use borrow.Author.Rules.{rules}
+use Rattle.store.proofs.edits.allowing.add_not_allowed.Goals as goal
+
+pub returns-in-Setter : goal.returns-in-Setter
+unfolding not_allowed
+returns-in-Setter c = rw c.enum_told-1.given.1
+
+pub returns-in-Operator : goal.returns-in-Operator
+unfolding not_allowed
+returns-in-Operator c = rw (c.enum_told-in-Operator-1.given.1, ← c.kind_of.ensures)

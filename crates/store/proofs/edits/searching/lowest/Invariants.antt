@@ -1,0 +1,17 @@
+-- `store::edits::searching::lowest` meets its contract: the search goes on from m as it would from 0, by the marks.
+use Prim.Native.Nat.{◌-◌, ◌<◌, ◌≤◌}
+use native.Mathlib.Nat.{sub-zero}
+use native.Mathlib.Omega.{arith}
+use mathlib.Core.Path.{◌≡◌, refl, sym, ◌∙◌}
+use Rattle.store.specs.edits.Written.{lowest_from}
+use Rattle.store.specs.edits.Steps.{Marked}
+use Rattle.store.proofs.edits.Searches.{lowest_later, lowest_here, lowest_end}
+use borrow.Author.Rules.{rules}
+use Rattle.store.proofs.edits.searching.lowest.Given as goal
+
+abbrev pub invariant-loop-m : goal.invariant-loop-m
+invariant-loop-m l =
+    (l.m ≤ l.count) × (lowest_from l.order l.count 0 ≡ lowest_from l.order (l.count - l.m) l.m) × Marked l.order l.marks
+
+abbrev pub decreases-loop-m : goal.decreases-loop-m
+decreases-loop-m l = l.count - l.m

@@ -1,0 +1,13 @@
+-- `store::store_edits::trying::keep` meets its contract.
+use mathlib.Core.Path.{sym, ◌∙◌}
+use Rattle.store.proofs.edits.Trials.{copied, trial_refused, trial_kept}
+use borrow.Author.Rules.{rules}
+use Rattle.store.proofs.store_edits.trying.keep.Goals as goal
+
+pub returns-in-Refused : goal.returns-in-Refused
+returns-in-Refused c =
+    trial_refused (sym c.space_answer-judged.ensures ∙ c.judged-1.given.1)
+
+pub returns-in-Accepted : goal.returns-in-Accepted
+returns-in-Accepted c =
+    trial_kept (sym c.space_answer-judged.ensures ∙ c.enum_told-1.given.1) (copied c.put.ensures c.requires)

@@ -1,0 +1,6 @@
+-- `walk::bands::axis::unit` meets its contract.
+use borrow.Author.Rules.{rules}
+use Rattle.walk.proofs.bands.axis.unit.Goals as goal
+
+pub returns : goal.returns
+returns c = c.scale.ensures

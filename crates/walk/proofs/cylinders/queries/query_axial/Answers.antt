@@ -1,0 +1,6 @@
+-- `walk::cylinders::queries::query_axial` meets its contract.
+use borrow.Author.Rules.{rules}
+use Rattle.walk.proofs.cylinders.queries.query_axial.Goals as goal
+
+pub returns : goal.returns
+returns c = rw (← c.axial_box.ensures, ← c.one_box.ensures)

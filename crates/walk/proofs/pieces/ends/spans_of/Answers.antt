@@ -1,0 +1,6 @@
+-- `walk::pieces::ends::spans_of` meets its contract.
+use borrow.Author.Rules.{rules}
+use Rattle.walk.proofs.pieces.ends.spans_of.Goals as goal
+
+pub returns : goal.returns
+returns c = rw (c.widest_of.ensures, c.narrowest_of.ensures)

@@ -1,0 +1,6 @@
+-- `walk::pieces::pieces::box_of` meets its contract.
+use borrow.Author.Rules.{rules}
+use Rattle.walk.proofs.pieces.pieces.box_of.Goals as goal
+
+pub returns : goal.returns
+returns c = rw (← c.min.ensures, ← c.max.ensures)

@@ -1,0 +1,6 @@
+-- `walk::samples::sample_z` meets its contract.
+use borrow.Author.Rules.{rules}
+use Rattle.walk.proofs.samples.sample_z.Goals as goal
+
+pub returns : goal.returns
+returns c = rw (c.fraction.ensures, c.whole_width-width.ensures)

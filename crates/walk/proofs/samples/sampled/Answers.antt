@@ -1,0 +1,26 @@
+-- `walk::samples::sampled` meets its contract: a fold.
+use Prim.Native.Nat.{suc, ◌≤◌, ◌-◌}
+use native.Mathlib.Omega.{arith}
+use mathlib.Core.Path.{◌≡◌}
+use Rattle.arith.specs.F64.{𝟘, ∞}
+use Rattle.section.specs.profile.Vertices.{vertex, on, hit, upto}
+use Rattle.walk.specs.Walk.{sample_z, sampled}
+use Rattle.walk.specs.Steps.{sample_at}
+use Rattle.section.proofs.profile.Fold.{upto_more, upto_end}
+use borrow.Author.Rules.{rules}
+use Rattle.walk.proofs.samples.sampled.Goals as goal
+
+pub loop-i-init : goal.loop-i-init
+unfolding upto
+loop-i-init c = (search rules, rw c.infinity.ensures)
+
+pub loop-i-preserved : goal.loop-i-preserved
+loop-i-preserved c = (
+  search rules,
+  upto_more _ _ _ c.loop-i.invariant.1
+      (rw (← c.sample_z.ensures) c.sample_at-best.ensures),
+)
+
+pub returns : goal.returns
+unfolding sampled
+returns c = upto_end _ _ _ c.loop-i.invariant.1 _ (omega arith)

@@ -1,0 +1,14 @@
+-- `walk::walker::walker::better` meets its contract.
+use borrow.Author.Rules.{rules}
+use Rattle.walk.proofs.walker.walker.better.Goals as goal
+
+pub returns-then-dropped : goal.returns-then-dropped
+returns-then-dropped c = rw (← c.dropped.ensures, c.if-dropped.true)
+
+pub returns : goal.returns
+returns c =
+    rw (
+      ← c.dropped.ensures,
+      c.if-dropped.false,
+      ← c.nearer_of.ensures,
+    )

@@ -1,0 +1,6 @@
+-- `walk::walker::walker::one_box` meets its contract.
+use borrow.Author.Rules.{rules}
+use Rattle.walk.proofs.walker.walker.one_box.Goals as goal
+
+pub returns : goal.returns
+returns c = rw (← c.box_distance.ensures)
