@@ -48,6 +48,7 @@ module _ {A : Type 0} (test : A → Bool) (own : A → Reply Bool) where
 
   true_some : {l : List A} → All Agrees l → Some (λ (x : A). own x ≡ value true) l → any_of test l ≡ true
   unfolding any_of
+  true_some nil x3 = elim x3 [ ]
   true_some (cons p h) (here q) = rw (value_same (sym p ∙ q))
   true_some (cons {x} p h) (later q) = rw (true_some h q, or-true)
 

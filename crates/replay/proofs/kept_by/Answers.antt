@@ -4,4 +4,4 @@ use borrow.Author.Rules.{rules}
 use Rattle.replay.proofs.kept_by.Goals as goal
 
 pub returns-in-Kept : goal.returns-in-Kept
-returns-in-Kept c = rw c.reply-1.given.1 (omega arith)
+returns-in-Kept c = rw c.in-Kept.is (omega arith)

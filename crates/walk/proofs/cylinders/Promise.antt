@@ -41,7 +41,7 @@ module _ (s : List Float) (c : Cylinder) (t : Settings) (f : Each IsF64 (cylinde
         let b = band_of (measured_as a c) in
         let w = walk_covers s c extra settings n f e t taken g a in
         pick (Few t) (b.radius ≼ e_15) (λ h. one (box_distance s (thin_box b)))
-        (λ h. record { some_box = w.some-box; boxes = w.boxes; waiting = w.room })
+        (λ h. record { some_box = w.some_box; boxes = w.boxes; waiting = w.room })
 
     pub few : Few t (cylinder_distance s c t)
     unfolding cylinder_distance

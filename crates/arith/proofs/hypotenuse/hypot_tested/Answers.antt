@@ -11,7 +11,7 @@ pub returns-then-r-le-T53 : goal.returns-then-r-le-T53
 returns-then-r-le-T53 c = λ h. fast_binade _ _ _ _ _ _ _
     c.requires.1
     c.if-s-lt2.true
-    c.wrapping_sub_u64-s.ensures (omega arith)
+    c.wrapping_sub_u64-s.ensures.value (omega arith)
     c.scaled-aa.ensures
     c.scaled-bb.ensures (c.nearest_half-r.ensures (omega arith))
     c.if-r-gt-T52.true c.if-r-le-T53.true

@@ -2,13 +2,8 @@
 use Rattle.std.proofs.Common.{◌≡◌, ℕ, ◌-◌, ◌*◌, ◌^◌, ◌<◌, ◌≤◌, refl, ◌∙◌, arith, rules}
 use Rattle.arith.specs.roots.Steps.{Subnormal}
 use Rattle.arith.proofs.roots.Root.SqrtValue.{small_sqrt, doubled, large}
+use Rattle.arith.proofs.square_root.sqrt_subnormal.Invariants.{Doubled}
 use Rattle.arith.proofs.square_root.sqrt_subnormal.Goals as goal
-
-record Doubled (b m e : ℕ) : Type 0 where
-  value : m * 2 ^ e ≡ b * 2 ^ 1024
-  positive : 0 < m
-  small : m < 2 ^ 53
-  most : e ≤ 1024
 
 enough : {b m e : ℕ} → Subnormal b → Doubled b m e → 2 ≤ e
 enough {b} {m} {e} s d = large b m e s.positive d.small d.value

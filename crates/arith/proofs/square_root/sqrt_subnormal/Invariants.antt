@@ -4,6 +4,12 @@ use Rattle.arith.specs.roots.Steps.{Subnormal}
 use Rattle.arith.proofs.roots.Root.SqrtValue.{small_sqrt, doubled, large}
 use Rattle.arith.proofs.square_root.sqrt_subnormal.Given as goal
 
+pub record Doubled (b m e : ℕ) : Type 0 where
+  pub value : m * 2 ^ e ≡ b * 2 ^ 1024
+  pub positive : 0 < m
+  pub small : m < 2 ^ 53
+  pub most : e ≤ 1024
+
 abbrev pub invariant-loop-m : goal.invariant-loop-m
 invariant-loop-m l = Doubled l.b l.m l.e
 

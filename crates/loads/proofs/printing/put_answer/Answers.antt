@@ -7,17 +7,17 @@ use Rattle.loads.proofs.printing.put_answer.Goals as goal
 
 pub slice_bounds-space-end : goal.slice_bounds-space-end
 slice_bounds-space-end c =
-    omega (arith, (front_of_lem _ _ _ c.write_load-answer.ensures c.answer-1.given.1).within)
+    omega (arith, (front_of_lem _ _ _ c.write_load-answer.ensures c.in-Bytes.is).within)
 
 pub slice_bounds-put_bytes_line-end : goal.slice_bounds-put_bytes_line-end
 slice_bounds-put_bytes_line-end c =
-    simp length-take (omega (arith, (front_of_lem _ _ _ c.write_load-answer.ensures c.answer-1.given.1).within))
+    simp length-take (omega (arith, (front_of_lem _ _ _ c.write_load-answer.ensures c.in-Bytes.is).within))
 
 pub put_bytes_line-requires : goal.put_bytes_line-requires
 put_bytes_line-requires c =
     omega (
       arith,
-      (front_of_lem _ _ _ c.write_load-answer.ensures c.answer-1.given.1).room,
+      (front_of_lem _ _ _ c.write_load-answer.ensures c.in-Bytes.is).room,
       c.put_bytes_line-arg-1.given.0.1,
     )
 
@@ -26,10 +26,10 @@ put_refused_line-requires c = refusal_room _ (search rules) c.put_refused_line-a
 
 pub returns-in-Bytes : goal.returns-in-Bytes
 returns-in-Bytes c =
-    bytes_printed _ _ (front_of_lem _ _ _ c.write_load-answer.ensures c.answer-1.given.1)
+    bytes_printed _ _ (front_of_lem _ _ _ c.write_load-answer.ensures c.in-Bytes.is)
     c.put_bytes_line-arg-1.given.0.1 c.put_bytes_line.ensures
 
 pub returns-in-Refused : goal.returns-in-Refused
 returns-in-Refused c =
-    refusal_printed _ _ _ (refused_of _ _ _ c.write_load-answer.ensures c.answer-in-Refused-1.given.1) (search rules)
+    refusal_printed _ _ _ (refused_of _ _ _ c.write_load-answer.ensures c.in-Refused.is) (search rules)
     c.put_refused_line-arg-1.given.0.1 c.put_refused_line.ensures

@@ -12,7 +12,7 @@ use Rattle.walk.proofs.samples.sampled.Given as goal
 
 abbrev pub invariant-loop-i : goal.invariant-loop-i
 invariant-loop-i l =
-    (l.i ≤ suc l.n) × (l.best ≡ upto (λ l.i l.best. sample_at l.s l.b (sample_z l.b l.n l.i) l.best) (hit ∞ (on 0 (vertex l.b.zc 𝟘))) l.i)
+    (l.i ≤ suc l.n) × (l.best ≡ upto (λ i best. sample_at l.s l.b (sample_z l.b l.n i) best) (hit ∞ (on 0 (vertex l.b.zc 𝟘))) l.i)
 
 abbrev pub decreases-loop-i : goal.decreases-loop-i
 decreases-loop-i l = suc l.n - l.i

@@ -57,9 +57,9 @@ returns-then-rest-k c =
     let r = reached _ _ _ _ c.at_least-once.ensures c.at_least-twice.ensures in
     let i = below _ _ _ (omega arith) r c.if-rest-k.true in
     let h = plain _ _ _
-    c.wrapping_sub_u64-h.ensures (omega arith) (omega arith) in
-    let t = plain _ _ _ c.wrapping_sub_u64-t.ensures
+    c.wrapping_sub_u64-h.ensures.value (omega arith) (omega arith) in
+    let t = plain _ _ _ c.wrapping_sub_u64-t.ensures.value
     (omega arith) (omega arith) in
-    let e = plain _ _ _ c.wrapping_sub_u64-e.ensures (omega arith) (omega arith) in
+    let e = plain _ _ _ c.wrapping_sub_u64-e.ensures.value (omega arith) (omega arith) in
     let s = c.square_parts-s.ensures.value in
     choice _ _ _ _ (joined _ _ _ _ _ _ _ _ _ _ h t e s) (omega arith) r c.if-rest-k.true

@@ -5,9 +5,9 @@ use Rattle.bodies.proofs.lifted.queries.lifted_counted.Goals as goal
 pub returns-in-Hit : goal.returns-in-Hit
 returns-in-Hit c =
     record {
-      equal = rw (c.answer-1.given.1, ← c.lift-witness.ensures.equal);
+      equal = rw (c.in-Hit.is, ← c.lift-witness.ensures.equal);
       owed = c.lift-witness.ensures.placed;
     }
 
 pub returns-in-Refused : goal.returns-in-Refused
-returns-in-Refused c = record { equal = rw c.answer-in-Refused-1.given.1; owed = tt }
+returns-in-Refused c = record { equal = rw c.in-Refused.is; owed = tt }

@@ -3,10 +3,10 @@ use borrow.Author.Rules.{rules}
 use Rattle.bodies.proofs.moves.placement.placed.Goals as goal
 
 pub returns-in-Sphere : goal.returns-in-Sphere
-returns-in-Sphere c = rw c.body-1.given.1 c.placed_sphere.ensures
+returns-in-Sphere c = rw c.in-Sphere.is c.placed_sphere.ensures
 
 pub returns-in-Box : goal.returns-in-Box
-returns-in-Box c = rw c.body-in-Box-1.given.1 c.placed_box.ensures
+returns-in-Box c = rw c.in-Box.is c.placed_box.ensures
 
 pub returns-in-Cylinder : goal.returns-in-Cylinder
-returns-in-Cylinder c = rw c.body-in-Cylinder-1.given.1 c.placed_cylinder.ensures
+returns-in-Cylinder c = rw c.in-Cylinder.is c.placed_cylinder.ensures

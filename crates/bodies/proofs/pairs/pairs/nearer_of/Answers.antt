@@ -3,11 +3,11 @@ use borrow.Author.Rules.{rules}
 use Rattle.bodies.proofs.pairs.pairs.nearer_of.Goals as goal
 
 pub returns-in-Refused : goal.returns-in-Refused
-returns-in-Refused c = rw c.chuck-1.given.1
+returns-in-Refused c = rw c.in-Refused.is
 
 pub returns-in-Refused-work : goal.returns-in-Refused-work
-returns-in-Refused-work c = rw (c.chuck-in-Hit-1.given.1, c.work-1.given.1)
+returns-in-Refused-work c = rw (c.in-Hit.is, c.in-Refused-work.is)
 
 pub returns-in-Hit-work : goal.returns-in-Hit-work
 returns-in-Hit-work c =
-    rw (c.chuck-in-Hit-1.given.1, c.work-in-Hit-1.given.1) c.nearer.ensures
+    rw (c.in-Hit.is, c.in-Hit-work.is) c.nearer.ensures

@@ -3,7 +3,7 @@ use borrow.Author.Rules.{rules}
 use Rattle.bodies.proofs.pairs.pairs.uncounted.Goals as goal
 
 pub returns-in-Refused : goal.returns-in-Refused
-returns-in-Refused c = rw c.answer-1.given.1
+returns-in-Refused c = rw c.in-Refused.is
 
 pub returns-in-Hit : goal.returns-in-Hit
-returns-in-Hit c = rw c.answer-in-Hit-1.given.1
+returns-in-Hit c = rw c.in-Hit.is

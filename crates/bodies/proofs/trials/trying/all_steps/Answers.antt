@@ -21,14 +21,14 @@ returns-in-Refused c =
     step_refused _ _ _ _ _ c.loop-i.invariant.1
     (at_most c.loop-i.invariant.0 c.loop-i-test.true)
     c.placed_at-there.ensures
-    c.query_body.ensures (ap told c.n-1.given.1)
+    c.query_body.ensures (ap told c.in-Refused.is)
 
 pub with_step-report-requires : goal.with_step-report-requires
 with_step-report-requires c =
     step_fits _ _ _ _ _ c.loop-i.invariant.1
     (at_most c.loop-i.invariant.0 c.loop-i-test.true)
     c.placed_at-there.ensures
-    c.query_body.ensures (ap told c.hit-1.given.1)
+    c.query_body.ensures (ap told c.in-Hit.is)
 
 pub overflow_add-i : goal.overflow_add-i
 overflow_add-i c =
@@ -48,7 +48,7 @@ loop-i-preserved c =
       step_more _ _ _ _ _ c.loop-i.invariant.1
           (at_most c.loop-i.invariant.0 c.loop-i-test.true)
           c.placed_at-there.ensures
-          c.query_body.ensures (ap told c.hit-1.given.1) c.with_step-report.ensures,
+          c.query_body.ensures (ap told c.in-Hit.is) c.with_step-report.ensures,
     )
 
 pub returns : goal.returns

@@ -3,4 +3,4 @@ use borrow.Author.Rules.{rules}
 use Rattle.bodies.proofs.verdicts.tilt.judged_distance.Goals as goal
 
 pub returns-in-Cylinder : goal.returns-in-Cylinder
-returns-in-Cylinder c = rw (c.body-1.given.1, ← c.axis_of.ensures) c.less_tilt.ensures
+returns-in-Cylinder c = rw (c.in-Cylinder.is, ← c.axis_of.ensures) c.less_tilt.ensures

@@ -3,13 +3,13 @@ use borrow.Author.Rules.{rules}
 use Rattle.bodies.proofs.verdicts.tilt.tilt_length.Goals as goal
 
 pub returns-in-Axial : goal.returns-in-Axial
-returns-in-Axial c = rw c.enum_told-1.given.1 c.hypot.ensures
+returns-in-Axial c = rw c.in-Axial.is c.hypot.ensures
 
 pub returns-in-AlongX : goal.returns-in-AlongX
-returns-in-AlongX c = rw c.enum_told-in-AlongX-1.given.1 c.hypot-in-AlongX.ensures
+returns-in-AlongX c = rw c.in-AlongX.is c.hypot-in-AlongX.ensures
 
 pub returns-in-AlongY : goal.returns-in-AlongY
-returns-in-AlongY c = rw c.enum_told-in-AlongY-1.given.1 c.hypot-in-AlongY.ensures
+returns-in-AlongY c = rw c.in-AlongY.is c.hypot-in-AlongY.ensures
 
 pub returns-in-Neither : goal.returns-in-Neither
-returns-in-Neither c = rw c.enum_told-in-Neither-1.given.1 c.hypot-in-Neither.ensures
+returns-in-Neither c = rw c.in-Neither.is c.hypot-in-Neither.ensures

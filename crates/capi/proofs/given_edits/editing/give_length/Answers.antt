@@ -3,7 +3,7 @@ use borrow.Author.Rules.{rules}
 use Rattle.capi.proofs.given_edits.editing.give_length.Goals as goal
 
 pub returns-in-Length : goal.returns-in-Length
-returns-in-Length c = let told = c.answer-1.given.1 in record { returned = rw told; lent = rw told }
+returns-in-Length c = let told = c.in-Length.is in record { returned = rw told; lent = rw told }
 
 pub returns-in-Refused : goal.returns-in-Refused
-returns-in-Refused c = let told = c.answer-in-Refused-1.given.1 in record { returned = rw told; lent = rw told }
+returns-in-Refused c = let told = c.in-Refused.is in record { returned = rw told; lent = rw told }

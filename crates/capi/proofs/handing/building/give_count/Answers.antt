@@ -3,7 +3,7 @@ use borrow.Author.Rules.{rules}
 use Rattle.capi.proofs.handing.building.give_count.Goals as goal
 
 pub returns-in-Numbers : goal.returns-in-Numbers
-returns-in-Numbers c = let told = c.answer-1.given.1 in record { returned = rw told; lent = rw told }
+returns-in-Numbers c = let told = c.in-Numbers.is in record { returned = rw told; lent = rw told }
 
 pub returns-in-Refused : goal.returns-in-Refused
-returns-in-Refused c = let told = c.answer-in-Refused-1.given.1 in record { returned = rw told; lent = rw told }
+returns-in-Refused c = let told = c.in-Refused.is in record { returned = rw told; lent = rw told }

@@ -7,13 +7,13 @@ use Rattle.capi.proofs.handing.cylinder.give_cylinder.Goals as goal
 
 pub give_counted-requires : goal.give_counted-requires
 give_counted-requires c =
-    rw c.answer-1.given.1 at c.requires
+    rw c.in-Hit.is at c.requires
 
 pub returns-in-Hit : goal.returns-in-Hit
 returns-in-Hit c =
-    gives (sym (ap told c.answer-1.given.1)) c.give_counted.ensures
+    gives (sym (ap told c.in-Hit.is)) c.give_counted.ensures
 
 pub returns-in-Refused : goal.returns-in-Refused
 returns-in-Refused c =
-    let t = c.answer-in-Refused-1.given.1 in
+    let t = c.in-Refused.is in
     record { returned = rw t; lent = rw t }

@@ -9,20 +9,20 @@ use Rattle.capi.proofs.handing.lifting.give_lifted_cylinder.Goals as goal
 
 pub give_counts-requires : goal.give_counts-requires
 give_counts-requires c =
-    let fits = rw c.answer-1.given.1 at c.requires in
+    let fits = rw c.in-Hit.is at c.requires in
     (fits.boxes, fits.waiting)
 
 pub give_lifted-requires : goal.give_lifted-requires
 give_lifted-requires c =
-    let fits = rw c.answer-1.given.1 at c.requires in
+    let fits = rw c.in-Hit.is at c.requires in
     fits.edge
 
 pub returns-in-Hit : goal.returns-in-Hit
 returns-in-Hit c =
-    walked uncounted lifted_places (λ (h : LiftedCountedHit). h.hit) (ap told_counted c.answer-1.given.1)
+    walked uncounted lifted_places (λ (h : LiftedCountedHit). h.hit) (ap told_counted c.in-Hit.is)
     c.give_lifted.ensures c.give_counts.ensures
 
 pub returns-in-Refused : goal.returns-in-Refused
 returns-in-Refused c =
-    let t = c.answer-in-Refused-1.given.1 in
+    let t = c.in-Refused.is in
     record { returned = rw t; lent = rw t }

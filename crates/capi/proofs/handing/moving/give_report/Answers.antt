@@ -4,10 +4,10 @@ use Rattle.capi.proofs.handing.moving.give_report.Goals as goal
 
 pub returns-in-Moved : goal.returns-in-Moved
 returns-in-Moved c =
-    let t = c.answer-1.given.1 in
+    let t = c.in-Moved.is in
     record { returned = rw t; lent = rw (t, c.mark_of.ensures) }
 
 pub returns-in-Refused : goal.returns-in-Refused
 returns-in-Refused c =
-    let t = c.answer-in-Refused-1.given.1 in
+    let t = c.in-Refused.is in
     record { returned = rw t; lent = rw t }

@@ -7,21 +7,21 @@ use Rattle.capi.proofs.handing.pair.give_pair.Goals as goal
 
 pub give_counted-requires : goal.give_counted-requires
 give_counted-requires c =
-    rw c.answer-1.given.1 at c.requires
+    rw c.in-Chuck.is at c.requires
 
 pub give_counted-requires-in-Work : goal.give_counted-requires-in-Work
 give_counted-requires-in-Work c =
-    rw c.answer-in-Work-1.given.1 at c.requires
+    rw c.in-Work.is at c.requires
 
 pub returns-in-Chuck : goal.returns-in-Chuck
 returns-in-Chuck c =
-    won_given (ap told c.answer-1.given.1) c.give_counted.ensures refl
+    won_given (ap told c.in-Chuck.is) c.give_counted.ensures refl
 
 pub returns-in-Work : goal.returns-in-Work
 returns-in-Work c =
-    won_given (ap told c.answer-in-Work-1.given.1) c.give_counted-in-Work.ensures refl
+    won_given (ap told c.in-Work.is) c.give_counted-in-Work.ensures refl
 
 pub returns-in-Refused : goal.returns-in-Refused
 returns-in-Refused c =
-    let t = c.answer-in-Refused-1.given.1 in
+    let t = c.in-Refused.is in
     record { returned = rw t; lent = rw t }

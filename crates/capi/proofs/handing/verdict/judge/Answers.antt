@@ -3,10 +3,10 @@ use borrow.Author.Rules.{rules}
 use Rattle.capi.proofs.handing.verdict.judge.Goals as goal
 
 pub returns-in-Clear : goal.returns-in-Clear
-returns-in-Clear c = let told = c.enum_told-1.given.1 in record { returned = rw told; lent = rw told }
+returns-in-Clear c = let told = c.in-Clear.is in record { returned = rw told; lent = rw told }
 
 pub returns-in-Collision : goal.returns-in-Collision
-returns-in-Collision c = let told = c.enum_told-in-Collision-1.given.1 in record { returned = rw told; lent = rw told }
+returns-in-Collision c = let told = c.in-Collision.is in record { returned = rw told; lent = rw told }
 
 pub returns-in-Refused : goal.returns-in-Refused
-returns-in-Refused c = let told = c.verdict-1.given.1 in record { returned = rw told; lent = rw told }
+returns-in-Refused c = let told = c.in-Refused.is in record { returned = rw told; lent = rw told }

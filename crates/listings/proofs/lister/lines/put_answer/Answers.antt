@@ -9,22 +9,22 @@ use Rattle.listings.proofs.lister.lines.put_answer.Goals as goal
 
 pub put_hit-requires : goal.put_hit-requires
 put_hit-requires c =
-    hit_room _ _ c.requires c.answer-1.given.1
+    hit_room _ _ c.requires c.in-Hit.is
 
 pub put_word-a-requires : goal.put_word-a-requires
 unfolding text
 put_word-a-requires c =
-    omega (arith, simp length-append at (refused_room _ _ c.requires c.answer-in-Refused-1.given.1))
+    omega (arith, simp length-append at (refused_room _ _ c.requires c.in-Refused.is))
 
 pub put_decimal-requires : goal.put_decimal-requires
 unfolding text
 put_decimal-requires c =
-    omega (arith, simp length-append at (refused_room _ _ c.requires c.answer-in-Refused-1.given.1))
+    omega (arith, simp length-append at (refused_room _ _ c.requires c.in-Refused.is))
 
 pub returns-in-Hit : goal.returns-in-Hit
-returns-in-Hit c = rw c.answer-1.given.1 c.put_hit.ensures
+returns-in-Hit c = rw c.in-Hit.is c.put_hit.ensures
 
 pub returns-in-Refused : goal.returns-in-Refused
 unfolding text
 returns-in-Refused c =
-    rw c.answer-in-Refused-1.given.1 (then c.put_word-a.ensures c.put_decimal.ensures)
+    rw c.in-Refused.is (then c.put_word-a.ensures c.put_decimal.ensures)

@@ -16,17 +16,17 @@ pub slice_bounds-put_listing-end : goal.slice_bounds-put_listing-end
 slice_bounds-put_listing-end c =
     simp length-take (omega (
       arith,
-      length_fits _ (sym c.length_answer-whole.ensures ∙ c.enum_told-1.given.1),
+      length_fits _ (sym c.length_answer-whole.ensures ∙ c.in-Accepted.is),
       c.room-1.given.0,
     ))
 
 pub returns-in-Refused : goal.returns-in-Refused
 unfolding input_listing
 returns-in-Refused c =
-    rw (← c.length_answer-whole.ensures, c.whole-1.given.1) (front_written c.put_refusal_line.ensures
+    rw (← c.length_answer-whole.ensures, c.in-Refused.is) (front_written c.put_refusal_line.ensures
     (line_room _ _ (search rules) (search rules) c.put_refusal_line-arg-1.given.0.1))
 
 pub returns-in-Accepted : goal.returns-in-Accepted
 unfolding input_listing listing
 returns-in-Accepted c =
-    rw (← c.length_answer-whole.ensures, c.enum_told-1.given.1) c.put_listing.ensures
+    rw (← c.length_answer-whole.ensures, c.in-Accepted.is) c.put_listing.ensures

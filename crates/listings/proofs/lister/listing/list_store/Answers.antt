@@ -8,55 +8,55 @@ use Rattle.listings.proofs.lister.listing.list_store.Goals as goal
 
 pub slice_bounds-order-end : goal.slice_bounds-order-end
 slice_bounds-order-end c =
-    omega (arith, (c.read_chain-chained.ensures.accepted _ c.chained-in-Front-1.given.1).small)
+    omega (arith, (c.read_chain-chained.ensures.accepted _ c.in-Front.is).small)
 
 pub slice_bounds-read_section-end : goal.slice_bounds-read_section-end
 slice_bounds-read_section-end c =
-    simp length-take (omega (arith, (c.read_chain-chained.ensures.accepted _ c.chained-in-Front-1.given.1).small))
+    simp length-take (omega (arith, (c.read_chain-chained.ensures.accepted _ c.in-Front.is).small))
 
 pub read_section-section-requires : goal.read_section-section-requires
 read_section-section-requires c =
     record {
       room = search rules;
-      few = simp length-take (omega (arith, (c.read_chain-chained.ensures.accepted _ c.chained-in-Front-1.given.1).small));
+      few = simp length-take (omega (arith, (c.read_chain-chained.ensures.accepted _ c.in-Front.is).small));
     }
 
 pub slice_bounds-space-end : goal.slice_bounds-space-end
 slice_bounds-space-end c =
-    omega (arith, (c.read_section-section.ensures.accepted _ c.section-in-Front-section-1.given.1).small)
+    omega (arith, (c.read_section-section.ensures.accepted _ c.in-Front-section.is).small)
 
 pub slice_bounds-put_accepted-end : goal.slice_bounds-put_accepted-end
 slice_bounds-put_accepted-end c =
-    simp length-take (omega (arith, (c.read_section-section.ensures.accepted _ c.section-in-Front-section-1.given.1).small))
+    simp length-take (omega (arith, (c.read_section-section.ensures.accepted _ c.in-Front-section.is).small))
 
 pub slice_bounds-order-end-in-Front-section : goal.slice_bounds-order-end-in-Front-section
 slice_bounds-order-end-in-Front-section c =
-    omega (arith, (c.read_chain-chained.ensures.accepted _ c.chained-in-Front-1.given.1).small)
+    omega (arith, (c.read_chain-chained.ensures.accepted _ c.in-Front.is).small)
 
 pub slice_bounds-put_accepted-end-in-Front-section : goal.slice_bounds-put_accepted-end-in-Front-section
 slice_bounds-put_accepted-end-in-Front-section c =
-    simp length-take (omega (arith, (c.read_chain-chained.ensures.accepted _ c.chained-in-Front-1.given.1).small))
+    simp length-take (omega (arith, (c.read_chain-chained.ensures.accepted _ c.in-Front.is).small))
 
 pub put_accepted-bytes-requires : goal.put_accepted-bytes-requires
 put_accepted-bytes-requires c =
-    let chain = c.read_chain-chained.ensures.accepted _ c.chained-in-Front-1.given.1 in
-    let section = c.read_section-section.ensures.accepted _ c.section-in-Front-section-1.given.1 in
+    let chain = c.read_chain-chained.ensures.accepted _ c.in-Front.is in
+    let section = c.read_section-section.ensures.accepted _ c.in-Front-section.is in
     listing_room _ (decided_second _ chain.good chain.front section.good) chain.front section.front
     c.args.text.now c.put_accepted-arg-1.given.0.1
 
 pub returns-in-Refused : goal.returns-in-Refused
 returns-in-Refused c =
-    not_listed _ _ (refused_first _ (c.read_chain-chained.ensures.refused _ _ c.chained-1.given.1))
+    not_listed _ _ (refused_first _ (c.read_chain-chained.ensures.refused _ _ c.in-Refused.is))
 
 pub returns-in-Refused-section : goal.returns-in-Refused-section
 returns-in-Refused-section c =
-    let chain = c.read_chain-chained.ensures.accepted _ c.chained-in-Front-1.given.1 in
+    let chain = c.read_chain-chained.ensures.accepted _ c.in-Front.is in
     not_listed _ _ (decided_second _ chain.good chain.front (c.read_section-section.ensures.refused _ _
-    c.section-1.given.1))
+    c.in-Refused-section.is))
 
 pub returns-in-Front-section : goal.returns-in-Front-section
 returns-in-Front-section c =
-    let chain = c.read_chain-chained.ensures.accepted _ c.chained-in-Front-1.given.1 in
-    let section = c.read_section-section.ensures.accepted _ c.section-in-Front-section-1.given.1 in
+    let chain = c.read_chain-chained.ensures.accepted _ c.in-Front.is in
+    let section = c.read_section-section.ensures.accepted _ c.in-Front-section.is in
     listed _ (decided_second _ chain.good chain.front section.good) chain.front section.front _
     c.put_accepted-arg-1.given.0.1 c.put_accepted-bytes.ensures

@@ -11,10 +11,10 @@ put_refusal_line-requires c = line_room _ _ (search rules) (search rules) c.put_
 
 pub returns-in-Bytes : goal.returns-in-Bytes
 returns-in-Bytes c =
-    listed_front (store_answer c.args.store.now) (listing c.args.store.now) _ (sym c.answer-1.given.1
+    listed_front (store_answer c.args.store.now) (listing c.args.store.now) _ (sym c.in-Bytes.is
     ∙ c.list_store-answer.ensures.answer) c.list_store-answer.ensures.buffer
 
 pub returns-in-Refused : goal.returns-in-Refused
 returns-in-Refused c =
-    refused_front _ _ (sym c.answer-in-Refused-1.given.1 ∙ c.list_store-answer.ensures.answer) c.list_store-answer.ensures.buffer
+    refused_front _ _ (sym c.in-Refused.is ∙ c.list_store-answer.ensures.answer) c.list_store-answer.ensures.buffer
     (line_room _ _ (search rules) (search rules) c.put_refusal_line-arg-1.given.0.1) c.put_refusal_line.ensures

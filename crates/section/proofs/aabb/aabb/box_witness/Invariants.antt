@@ -11,7 +11,7 @@ use Rattle.section.proofs.aabb.aabb.box_witness.Given as goal
 
 abbrev pub invariant-loop-k : goal.invariant-loop-k
 invariant-loop-k l =
-    (l.k ≤ l.n) × (l.at ≡ upto (λ j l.at. cond (strictly_inside_aabb l.x (vertex_at l.s j)) (on j (vertex_at l.s j)) l.at) l.initial.at l.k)
+    (l.k ≤ l.n) × (l.at ≡ upto (λ j at. cond (strictly_inside_aabb l.x (vertex_at l.s j)) (on j (vertex_at l.s j)) at) l.initial.at l.k)
 
 abbrev pub decreases-loop-k : goal.decreases-loop-k
 decreases-loop-k l = l.n - l.k

@@ -3,7 +3,7 @@ use borrow.Author.Rules.{rules}
 use Rattle.section.proofs.builders.builder.handed_back.Goals as goal
 
 pub returns-in-Numbers : goal.returns-in-Numbers
-returns-in-Numbers c = rw c.answer-1.given.1
+returns-in-Numbers c = rw c.in-Numbers.is
 
 pub returns-in-Refused : goal.returns-in-Refused
-returns-in-Refused c = rw c.enum_told-1.given.1
+returns-in-Refused c = rw c.in-Refused.is

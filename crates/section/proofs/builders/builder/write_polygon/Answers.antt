@@ -11,7 +11,7 @@ use Rattle.section.proofs.builders.builder.write_polygon.Goals as goal
 pub push_polygon-requires : goal.push_polygon-requires
 push_polygon-requires c =
     let s = c.args.points.now in
-    let taken = polygon_accepted _ _ (ap told (sym c.answer-1.given.1) ∙ c.check_polygon-answer.ensures) in
+    let taken = polygon_accepted _ _ (ap told (sym c.in-Numbers.is) ∙ c.check_polygon-answer.ensures) in
     let most = polygon_most s in
     let whole = polygon_whole s in
     (taken.0, taken.1, omega arith, omega arith)
@@ -19,9 +19,9 @@ push_polygon-requires c =
 pub returns-in-Refused : goal.returns-in-Refused
 returns-in-Refused c =
     let e = c.check_polygon-answer.ensures in
-    record { equal = e; space_after_lem = polygon_stays _ _ (ap told (sym c.enum_told-1.given.1) ∙ e) }
+    record { equal = e; space_after_lem = polygon_stays _ _ (ap told (sym c.in-Refused.is) ∙ e) }
 
 pub returns-in-Numbers : goal.returns-in-Numbers
 returns-in-Numbers c =
-    let answer = ap told (sym c.answer-1.given.1) ∙ c.check_polygon-answer.ensures in
+    let answer = ap told (sym c.in-Numbers.is) ∙ c.check_polygon-answer.ensures in
     record { equal = answer; space_after_lem = c.push_polygon.ensures.1 ∙ polygon_written _ _ answer }

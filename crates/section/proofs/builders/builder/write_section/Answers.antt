@@ -11,7 +11,7 @@ use Rattle.section.proofs.builders.builder.write_section.Goals as goal
 pub push_section-requires : goal.push_section-requires
 push_section-requires c =
     let s = c.args.points.now in
-    let taken = section_accepted _ _ (ap told (sym c.answer-1.given.1) ∙ c.check_section-answer.ensures) in
+    let taken = section_accepted _ _ (ap told (sym c.in-Numbers.is) ∙ c.check_section-answer.ensures) in
     let most = section_most s in
     let whole = section_whole s in
     (taken.0, taken.1, omega arith)
@@ -19,9 +19,9 @@ push_section-requires c =
 pub returns-in-Refused : goal.returns-in-Refused
 returns-in-Refused c =
     let e = c.check_section-answer.ensures in
-    record { equal = e; space_after_lem = section_stays _ _ (ap told (sym c.enum_told-1.given.1) ∙ e) }
+    record { equal = e; space_after_lem = section_stays _ _ (ap told (sym c.in-Refused.is) ∙ e) }
 
 pub returns-in-Numbers : goal.returns-in-Numbers
 returns-in-Numbers c =
-    let answer = ap told (sym c.answer-1.given.1) ∙ c.check_section-answer.ensures in
+    let answer = ap told (sym c.in-Numbers.is) ∙ c.check_section-answer.ensures in
     record { equal = answer; space_after_lem = c.push_section.ensures.1 ∙ section_written _ _ answer }

@@ -13,7 +13,7 @@ use Rattle.section.proofs.convex.convex.convex_near.Given as goal
 
 abbrev pub invariant-loop-k : goal.invariant-loop-k
 invariant-loop-k l =
-    (l.k ≤ l.n) × (l.best ≡ upto (λ j l.best. min l.best (closest l.p (edge_at l.c j)).distance) ∞ l.k)
+    (l.k ≤ l.n) × (l.best ≡ upto (λ j best. min best (closest l.p (edge_at l.c j)).distance) ∞ l.k)
 
 abbrev pub decreases-loop-k : goal.decreases-loop-k
 decreases-loop-k l = l.n - l.k

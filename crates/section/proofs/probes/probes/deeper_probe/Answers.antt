@@ -1,7 +1,6 @@
 -- `section::probes::probes::deeper_probe` meets its contract: what lies outside is not below 0.
 use mathlib.Core.Path.{sym, ◌∙◌}
 use borrow.Author.Rules.{rules}
-use borrow.Author.Tests.{not-true}
 use Rattle.section.proofs.points.Outside.{point_outside}
 use Rattle.section.proofs.probes.Parity.{odd_inside, off_axis_lem}
 use Rattle.section.proofs.probes.probes.deeper_probe.Goals as goal
@@ -15,7 +14,7 @@ returns-then-odd c = c.deeper_inside.ensures
 
 pub returns-then-not-p : goal.returns-then-not-p
 returns-then-not-p c =
-    let outside = off_axis_lem _ _ (sym c.requires.1 ∙ c.if-odd.false) (not-true _ c.if-not-p.true) in
+    let outside = off_axis_lem _ _ (sym c.requires.1 ∙ c.if-odd.false) c.if-not-p.true in
     rw (point_outside _ c.if-best.true _ _ outside)
 
 pub returns : goal.returns

@@ -5,4 +5,4 @@ use Rattle.section.proofs.profile.Refusals.Ordered.{own_after}
 use Rattle.section.proofs.refusals.refusal.sphere_refusal.Goals as goal
 
 pub returns : goal.returns
-returns c = own_after (given_tests _ _) ts (axis_tests _) _ tt h tt c.body_refusal.ensures e c.radius_refusal.ensures
+returns c ts h e = own_after (given_tests _ _) ts (axis_tests _) _ tt h tt c.body_refusal.ensures e c.radius_refusal.ensures

@@ -1,7 +1,35 @@
 -- `section::segments::clip::clip_side` meets its contract.
-use Rattle.section.specs.segments.Clip.{clip_side}
+use Rattle.std.proofs.Common.{◌≡◌, Bool, true, false, not, cond, subst, sym}
+use Rattle.std.specs.Prelude.{Float}
+use Rattle.std.specs.Float.Ieee.{neg}
+use Rattle.arith.specs.F64.{◌⊘◌, ◌≺◌, ◌≼◌, 𝟘, e_15, e_18}
+use Rattle.arith.specs.Num.{abs}
+use Rattle.section.specs.declared.segments.shapes.Clip.{Clip}
+use Rattle.section.specs.segments.Clip.{clip_side, outside, part}
 use borrow.Author.Rules.{rules}
 use Rattle.section.proofs.segments.clip.clip_side.Goals as goal
+
+-- What is left where the segment comes in, and where it goes out.
+abbrev entered : Float → Float → Clip → Clip
+entered p q c = cond (c.t1 ≺ (q ⊘ p)) outside (cond (c.t0 ≺ (q ⊘ p)) (part (q ⊘ p) c.t1) c)
+
+abbrev left : Float → Float → Clip → Clip
+left p q c = cond ((q ⊘ p) ≺ c.t0) outside (cond ((q ⊘ p) ≺ c.t1) (part c.t0 (q ⊘ p)) c)
+
+module _ (p q : Float) (c r : Clip) (any : c.any ≡ true) (across : (abs p ≼ e_18) ≡ false) where
+  cut : (b : Bool) → (p ≺ 𝟘) ≡ b → r ≡ cond b (entered p q c) (left p q c) → r ≡ clip_side p q c
+  unfolding clip_side
+  cut b side h =
+      subst (λ (x : Bool). r ≡ cond (not x) c (cond (abs p ≼ e_18) (cond (q ≺ neg e_15) outside c) (cond (p ≺ 𝟘) (entered p q c) (left p q c))))
+      (sym any)
+      (subst (λ (x : Bool). r ≡ cond x (cond (q ≺ neg e_15) outside c) (cond (p ≺ 𝟘) (entered p q c) (left p q c))) (sym across)
+      (subst (λ (x : Bool). r ≡ cond x (entered p q c) (left p q c)) (sym side) h))
+
+  cut_in : (p ≺ 𝟘) ≡ true → r ≡ entered p q c → r ≡ clip_side p q c
+  cut_in = cut true
+
+  cut_out : (p ≺ 𝟘) ≡ false → r ≡ left p q c → r ≡ clip_side p q c
+  cut_out = cut false
 
 pub returns-then-not-any : goal.returns-then-not-any
 unfolding clip_side
@@ -29,23 +57,9 @@ returns-then-abs c =
     )
 
 pub returns-then-p : goal.returns-then-p
-unfolding clip_side
 returns-then-p c =
-    rw (
-      c.if-not-any.false,
-      ← c.abs.ensures,
-      c.if-abs.false,
-      c.if-p.true,
-      ← c.enter_at.ensures,
-    )
+    cut_in _ _ _ _ c.if-not-any.false (rw (← c.abs.ensures) c.if-abs.false) c.if-p.true c.enter_at.ensures
 
 pub returns : goal.returns
-unfolding clip_side
 returns c =
-    rw (
-      c.if-not-any.false,
-      ← c.abs.ensures,
-      c.if-abs.false,
-      c.if-p.false,
-      ← c.leave_at.ensures,
-    )
+    cut_out _ _ _ _ c.if-not-any.false (rw (← c.abs.ensures) c.if-abs.false) c.if-p.false c.leave_at.ensures

@@ -5,8 +5,8 @@ use Rattle.store.proofs.edits.allowing.add_not_allowed.Goals as goal
 
 pub returns-in-Setter : goal.returns-in-Setter
 unfolding not_allowed
-returns-in-Setter c = rw c.enum_told-1.given.1
+returns-in-Setter c = rw c.in-Setter.is
 
 pub returns-in-Operator : goal.returns-in-Operator
 unfolding not_allowed
-returns-in-Operator c = rw (c.enum_told-in-Operator-1.given.1, ← c.kind_of.ensures)
+returns-in-Operator c = rw (c.in-Operator.is, ← c.kind_of.ensures)

@@ -6,22 +6,22 @@ use Rattle.store.proofs.edits.allowing.replace_not_allowed.Goals as goal
 
 pub returns-in-Setter : goal.returns-in-Setter
 unfolding not_allowed
-returns-in-Setter c = rw c.enum_told-1.given.1
+returns-in-Setter c = rw c.in-Setter.is
 
 pub returns-then-k-eq0 : goal.returns-then-k-eq0
 unfolding not_allowed
-returns-then-k-eq0 c = rw (c.enum_told-in-Operator-1.given.1, eq-eqb _ _ c.if-k-eq0.true)
+returns-then-k-eq0 c = rw (c.in-Operator.is, eq-eqb _ _ c.if-k-eq0.true)
 
 pub returns-then-kind_of-eq1 : goal.returns-then-kind_of-eq1
 unfolding not_allowed
 returns-then-kind_of-eq1 c =
-    rw (c.enum_told-in-Operator-1.given.1, ne_eqb _ _ c.if-k-eq0.false, ← c.kind_of.ensures, eq-eqb _ _ c.if-kind_of-eq1.true)
+    rw (c.in-Operator.is, ne_eqb _ _ c.if-k-eq0.false, ← c.kind_of.ensures, eq-eqb _ _ c.if-kind_of-eq1.true)
 
 pub returns-then-next_of : goal.returns-then-next_of
 unfolding not_allowed
 returns-then-next_of c =
     rw (
-      c.enum_told-in-Operator-1.given.1,
+      c.in-Operator.is,
       ne_eqb _ _ c.if-k-eq0.false,
       ← c.kind_of.ensures,
       ne_eqb _ _ c.if-kind_of-eq1.false,
@@ -35,7 +35,7 @@ pub returns-in-Operator : goal.returns-in-Operator
 unfolding not_allowed
 returns-in-Operator c =
     rw (
-      c.enum_told-in-Operator-1.given.1,
+      c.in-Operator.is,
       ne_eqb _ _ c.if-k-eq0.false,
       ← c.kind_of.ensures,
       ne_eqb _ _ c.if-kind_of-eq1.false,

@@ -12,8 +12,8 @@ slice_bounds-read_chain-end c =
 
 pub returns-in-Front : goal.returns-in-Front
 returns-in-Front c =
-    let h = c.read_chain-filled.ensures.accepted _ c.filled-1.given.1 in (h.front, h.small)
+    let h = c.read_chain-filled.ensures.accepted _ c.in-Front.is in (h.front, h.small)
 
 pub returns-in-Refused : goal.returns-in-Refused
 returns-in-Refused c =
-    absurd (links_accepted _ _ c.requires.0 (c.read_chain-filled.ensures.refused _ _ c.enum_told-1.given.1))
+    absurd (links_accepted _ _ c.requires.0 (c.read_chain-filled.ensures.refused _ _ c.in-Refused.is))

@@ -11,16 +11,16 @@ use Rattle.store.proofs.edits.judging.space_answer.Goals as goal
 pub returns-in-Refused : goal.returns-in-Refused
 unfolding space_answer
 returns-in-Refused c =
-    rw (eq-eqb _ _ c.if-space-eq20480.true, ← c.length_answer-right.ensures, c.right-1.given.1)
+    rw (eq-eqb _ _ c.if-space-eq20480.true, ← c.length_answer-right.ensures, c.in-Refused.is)
 
 pub slice_bounds-read_store-end : goal.slice_bounds-read_store-end
 slice_bounds-read_store-end c =
-    simp length-take (omega (arith, length_within _ (sym c.length_answer-right.ensures ∙ c.enum_told-1.given.1)))
+    simp length-take (omega (arith, length_within _ (sym c.length_answer-right.ensures ∙ c.in-Accepted.is)))
 
 pub returns-in-Accepted : goal.returns-in-Accepted
 unfolding space_answer
 returns-in-Accepted c =
-    rw (eq-eqb _ _ c.if-space-eq20480.true, ← c.length_answer-right.ensures, c.enum_told-1.given.1, ← c.read_store.ensures)
+    rw (eq-eqb _ _ c.if-space-eq20480.true, ← c.length_answer-right.ensures, c.in-Accepted.is, ← c.read_store.ensures)
 
 pub returns : goal.returns
 unfolding space_answer

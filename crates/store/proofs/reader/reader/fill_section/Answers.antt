@@ -24,10 +24,10 @@ pub returns-in-Refused : goal.returns-in-Refused
 returns-in-Refused c =
     let front = c.gather-n.ensures.front c.if-n-gt256.false in
     fills_later _ (section_number front c.list_refusal-number.ensures ∙ ap numbered c.if-number-ne0.false)
-    (fills_refused (sym c.radii_answer-radii.ensures ∙ c.radii-1.given.1))
+    (fills_refused (sym c.radii_answer-radii.ensures ∙ c.in-Refused.is))
 
 pub returns-in-Accepted : goal.returns-in-Accepted
 returns-in-Accepted c =
     let front = c.gather-n.ensures.front c.if-n-gt256.false in
     fills_later _ (section_number front c.list_refusal-number.ensures ∙ ap numbered c.if-number-ne0.false)
-    (fills_front (sym c.radii_answer-radii.ensures ∙ c.enum_told-1.given.1) front (search rules))
+    (fills_front (sym c.radii_answer-radii.ensures ∙ c.in-Accepted.is) front (search rules))

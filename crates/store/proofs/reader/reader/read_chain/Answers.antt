@@ -8,13 +8,13 @@ use Rattle.store.proofs.reader.reader.read_chain.Goals as goal
 
 pub follow_chain-requires : goal.follow_chain-requires
 follow_chain-requires c =
-    let h = length_accepted _ (sym c.length_answer-whole.ensures ∙ c.enum_told-1.given.1) in
+    let h = length_accepted _ (sym c.length_answer-whole.ensures ∙ c.in-Accepted.is) in
     record { room = c.requires; some = h.some; most = h.most }
 
 pub returns-in-Refused : goal.returns-in-Refused
-returns-in-Refused c = fills_sooner _ (sym c.length_answer-whole.ensures ∙ c.whole-1.given.1)
+returns-in-Refused c = fills_sooner _ (sym c.length_answer-whole.ensures ∙ c.in-Refused.is)
 
 pub returns-in-Accepted : goal.returns-in-Accepted
 unfolding chained
 returns-in-Accepted c =
-    fills_later _ (sym c.length_answer-whole.ensures ∙ c.enum_told-1.given.1) c.follow_chain.ensures
+    fills_later _ (sym c.length_answer-whole.ensures ∙ c.in-Accepted.is) c.follow_chain.ensures

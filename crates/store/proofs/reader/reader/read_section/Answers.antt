@@ -5,8 +5,8 @@ use borrow.Author.Rules.{rules}
 use Rattle.store.proofs.reader.reader.read_section.Goals as goal
 
 pub returns-in-Refused : goal.returns-in-Refused
-returns-in-Refused c = fills_sooner _ (sym c.kinds_answer-kinds.ensures ∙ c.kinds-1.given.1)
+returns-in-Refused c = fills_sooner _ (sym c.kinds_answer-kinds.ensures ∙ c.in-Refused.is)
 
 pub returns-in-Accepted : goal.returns-in-Accepted
 returns-in-Accepted c =
-    fills_later _ (sym c.kinds_answer-kinds.ensures ∙ c.enum_told-1.given.1) c.fill_section.ensures
+    fills_later _ (sym c.kinds_answer-kinds.ensures ∙ c.in-Accepted.is) c.fill_section.ensures

@@ -8,29 +8,29 @@ use Rattle.store.proofs.reader.reader.read_store.Goals as goal
 
 pub slice_bounds-order-end : goal.slice_bounds-order-end
 slice_bounds-order-end c =
-    omega (arith, (c.read_chain-chained.ensures.accepted _ c.chained-in-Front-1.given.1).small)
+    omega (arith, (c.read_chain-chained.ensures.accepted _ c.in-Front.is).small)
 
 pub slice_bounds-read_section-end : goal.slice_bounds-read_section-end
 slice_bounds-read_section-end c =
-    simp length-take (omega (arith, (c.read_chain-chained.ensures.accepted _ c.chained-in-Front-1.given.1).small))
+    simp length-take (omega (arith, (c.read_chain-chained.ensures.accepted _ c.in-Front.is).small))
 
 pub read_section-section-requires : goal.read_section-section-requires
 read_section-section-requires c =
     record {
       room = search rules;
-      few = simp length-take (omega (arith, (c.read_chain-chained.ensures.accepted _ c.chained-in-Front-1.given.1).small));
+      few = simp length-take (omega (arith, (c.read_chain-chained.ensures.accepted _ c.in-Front.is).small));
     }
 
 pub returns-in-Refused : goal.returns-in-Refused
 returns-in-Refused c =
-    sym (refused_first _ (c.read_chain-chained.ensures.refused _ _ c.chained-1.given.1))
+    sym (refused_first _ (c.read_chain-chained.ensures.refused _ _ c.in-Refused.is))
 
 pub returns-in-Refused-section : goal.returns-in-Refused-section
 returns-in-Refused-section c =
-    let chain = c.read_chain-chained.ensures.accepted _ c.chained-in-Front-1.given.1 in
-    sym (decided_second _ chain.good chain.front (c.read_section-section.ensures.refused _ _ c.section-1.given.1))
+    let chain = c.read_chain-chained.ensures.accepted _ c.in-Front.is in
+    sym (decided_second _ chain.good chain.front (c.read_section-section.ensures.refused _ _ c.in-Refused-section.is))
 
 pub returns-in-Front-section : goal.returns-in-Front-section
 returns-in-Front-section c =
-    let chain = c.read_chain-chained.ensures.accepted _ c.chained-in-Front-1.given.1 in
-    sym (decided_second _ chain.good chain.front (c.read_section-section.ensures.accepted _ c.enum_told-1.given.1).good)
+    let chain = c.read_chain-chained.ensures.accepted _ c.in-Front.is in
+    sym (decided_second _ chain.good chain.front (c.read_section-section.ensures.accepted _ c.in-Front-section.is).good)

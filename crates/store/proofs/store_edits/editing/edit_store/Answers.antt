@@ -7,25 +7,25 @@ use Rattle.store.proofs.store_edits.editing.edit_store.Goals as goal
 pub replace-requires : goal.replace-requires
 replace-requires c = (
   sym c.space_answer-judged.ensures
-      ∙ c.enum_told-1.given.1,
+      ∙ c.in-Accepted.is,
   search rules,
 )
 
 pub add-requires : goal.add-requires
 add-requires c = (
   sym c.space_answer-judged.ensures
-      ∙ c.enum_told-1.given.1,
+      ∙ c.in-Accepted.is,
   search rules,
 )
 
 pub returns-in-Refused : goal.returns-in-Refused
 returns-in-Refused c =
-    refused_space _ _ _ _ _ (sym c.space_answer-judged.ensures ∙ c.judged-1.given.1)
+    refused_space _ _ _ _ _ (sym c.space_answer-judged.ensures ∙ c.in-Refused.is)
 
 pub returns-in-Record : goal.returns-in-Record
 returns-in-Record c =
-    at_place c.place-1.given.1 c.replace.ensures
+    at_place c.in-Record.is c.replace.ensures
 
 pub returns-in-Add : goal.returns-in-Add
 returns-in-Add c =
-    at_place c.enum_told-in-Add-1.given.1 c.add.ensures
+    at_place c.in-Add.is c.add.ensures

@@ -6,8 +6,8 @@ use Rattle.store.proofs.store_edits.trying.keep.Goals as goal
 
 pub returns-in-Refused : goal.returns-in-Refused
 returns-in-Refused c =
-    trial_refused (sym c.space_answer-judged.ensures ∙ c.judged-1.given.1)
+    trial_refused (sym c.space_answer-judged.ensures ∙ c.in-Refused.is)
 
 pub returns-in-Accepted : goal.returns-in-Accepted
 returns-in-Accepted c =
-    trial_kept (sym c.space_answer-judged.ensures ∙ c.enum_told-1.given.1) (copied c.put.ensures c.requires)
+    trial_kept (sym c.space_answer-judged.ensures ∙ c.in-Accepted.is) (copied c.put.ensures c.requires)
