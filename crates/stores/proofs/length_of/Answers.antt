@@ -1,8 +1,0 @@
--- `stores::length_of` meets its contract.
-use Rattle.store.specs.Bytes.{little_endian}
-use borrow.Author.Rules.{rules}
-use Rattle.stores.proofs.length_of.Goals as goal
-
-pub returns : goal.returns
-unfolding little_endian
-returns c = search rules
