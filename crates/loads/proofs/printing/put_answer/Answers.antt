@@ -15,11 +15,7 @@ slice_bounds-put_bytes_line-end c =
 
 pub put_bytes_line-requires : goal.put_bytes_line-requires
 put_bytes_line-requires c =
-    omega (
-      arith,
-      (front_of_lem _ _ _ c.write_load-answer.ensures c.in-Bytes.is).room,
-      (search rules),
-    )
+    omega (arith, (front_of_lem _ _ _ c.write_load-answer.ensures c.in-Bytes.is).room)
 
 pub put_refused_line-requires : goal.put_refused_line-requires
 put_refused_line-requires c = refusal_room _ (search rules) (search rules)
