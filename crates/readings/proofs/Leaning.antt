@@ -23,7 +23,7 @@ use Rattle.walk.specs.bands.Band.{bar, axial_box, band_of, half_width, span_at}
 use Rattle.walk.specs.declared.bands.shapes.Cylinder.{Cylinder}
 use Rattle.walk.specs.Walk.{band_distance}
 use Rattle.walk.specs.cylinders.Cylinders.{cylinder_distance}
-use Rattle.bodies.specs.declared.shapes.Body.TheVariants as body·kinds
+use Rattle.bodies.specs.declared.shapes.Body.TheVariants as body_kinds
 use Rattle.bodies.specs.verdicts.Verdicts.{body_verdict}
 use Rattle.readings.proofs.Readings.{S, mm}
 
@@ -44,7 +44,7 @@ abbrev pub along_y : Cylinder
 along_y = bar (vec (neg sixteenth) (mm 12) (mm 10)) (vec sixteenth (mm 1036) (mm 10)) (mm 0)
 
 abbrev pub Collides : Cylinder → Float → Bool → Type 0
-Collides c clearance collision = body_verdict S (body·kinds.Cylinder c) clearance ≡ value collision
+Collides c clearance collision = body_verdict S (body_kinds.Cylinder c) clearance ≡ value collision
 
 -- a collision at the distance; clear at 3 - 5/128 and 2 - 1/16, where it is judged
 pub record LeaningBars : Type 0 where

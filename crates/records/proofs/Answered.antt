@@ -21,7 +21,7 @@ use Rattle.section.specs.declared.profile.shapes.Sphere.{Sphere}
 use Rattle.section.specs.declared.profile.shapes.Vertex.{Vertex}
 use Rattle.walk.specs.cylinders.Cylinders.{cylinder_answer}
 use Rattle.walk.specs.declared.bands.shapes.Cylinder.{Cylinder}
-use Rattle.walk.specs.declared.cylinders.shapes.CountedAnswer.TheVariants as cylinder-answers
+use Rattle.walk.specs.declared.cylinders.shapes.CountedAnswer.TheVariants as cylinder_answers
 use Rattle.records.specs.Flattened.{flattened}
 use Rattle.records.specs.Steps.{OfFront, OfPoint, OfSphere, OfBox, OfCylinder}
 use Rattle.records.proofs.FrontFilled.{FrontFilled}
@@ -54,7 +54,7 @@ module _ (xs : List Vertex) (h : 256 < length xs) where
   unfolding box_answer
   box_too_many x = record { equal = rw (number_three _ _); owed = tt }
 
-  pub cylinder_too_many : (c : Cylinder) → OfCylinder c (flattened xs) (cylinder-answers.Refused 3)
+  pub cylinder_too_many : (c : Cylinder) → OfCylinder c (flattened xs) (cylinder_answers.Refused 3)
   unfolding cylinder_answer
   cylinder_too_many c = record { equal = rw (number_three _ _); owed = tt }
 
