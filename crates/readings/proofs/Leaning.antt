@@ -2,7 +2,6 @@
 -- definitions give them, by computation.
 use mathlib.Core.Bool.{Bool, true, false}
 use mathlib.Core.Path.{◌≡◌, refl}
-use mathlib.Core.List.{List, [], ◌∷◌}
 use lib.IntN.{negsuc}
 use lib.Ieee.{Float, fin, of_int, neg, add, sub, mul, div, lt, le, of_bits}
 use Rattle.arith.specs.Num.{is_finite}
@@ -10,7 +9,7 @@ use Rattle.arith.specs.Vector.{vec}
 use Rattle.arith.specs.roots.Roots.{sqrt, hypot}
 use Rattle.section.specs.profile.Vertices.{upto, any}
 use Rattle.section.specs.profile.Refusals.{any_below_axis, refusal, any_of}
-use Rattle.section.specs.profile.Replies.{Reply, value}
+use Rattle.section.specs.profile.Replies.{value}
 use Rattle.section.specs.segments.Segments.{closest_point, closest, closest_places, segments}
 use Rattle.section.specs.segments.Clip.{clip_side, clip}
 use Rattle.section.specs.points.Points.{surface_step, surface_near, crosses, point_inside, inside_axis_edge, in_section, point_distance}
