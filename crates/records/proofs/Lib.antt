@@ -1,5 +1,4 @@
--- The copying loop without its machine (Filled), what its end gives (Answered, Replied), and the walk through its code (Layer).
+-- The copying loop (FrontFilled), too many vertices (TooMany), and the replies that are made of the answers (Replied).
 pub mod FrontFilled
-pub mod Answered
+pub mod TooMany
 pub mod Replied
-pub mod Layer

@@ -1,23 +1,15 @@
--- A reply that is made of an answer on the array's front is that of the answer which the definition gives; and number 3 of too
--- many vertices. By what the answer promises.
+-- A reply that is made of an answer on the array's front is that of the answer which the definition gives. By what the answer
+-- promises.
 use Prim.Native.Nat.{ℕ, ◌*◌, ◌<◌, ◌≤◌}
 use mathlib.Core.List.{List}
 use mathlib.Core.Logic.{◌⊎◌, inl, inr}
 use mathlib.Core.Path.{◌≡◌, ◌∙◌, ap, subst, sym}
-use lib.ListN.{length, take}
+use lib.ListN.{take}
 use lib.Ieee.{Float}
 use Rattle.arith.proofs.roots.Numbers.{decide}
-use Rattle.section.specs.profile.Replies.{Reply, turned_down, Answers, OfValue}
+use Rattle.section.specs.profile.Replies.{Reply, Answers, OfValue}
 use Rattle.section.proofs.profile.Replies.{owed}
-use Rattle.section.specs.declared.profile.shapes.Vertex.{Vertex}
-use Rattle.records.specs.Flattened.{flattened}
-use Rattle.records.specs.Replies.{point_of, sphere_of, box_of, cylinder_of, c_reply, c_cylinder_reply}
-use Rattle.records.specs.Steps.{OfFront, OfPlace, OfBall, OfBounds, OfBar}
-use Rattle.records.specs.declared.replies.Ball.{Ball}
-use Rattle.records.specs.declared.replies.Bar.{Bar}
-use Rattle.records.specs.declared.replies.Bounds.{Bounds}
-use Rattle.records.specs.declared.replies.Place.{Place}
-use Rattle.records.proofs.Answered.{point_too_many, sphere_too_many, box_too_many, cylinder_too_many}
+use Rattle.records.specs.Steps.{OfFront}
 
 -- the answer is to the body x, of which it is known that it is the given one
 pub replied : {R A X Q : Type 0} (told : R → Reply A) (make : Reply A → Q) (answer : List Float → X → Reply A) {given x : X}
@@ -39,16 +31,3 @@ owed_front {R} told answer {Owed = Owed} {Q = Q} weaker {a = a} {l = l} {n = n} 
     by : (n ≤ 256) ⊎ (256 < n) → OfValue Q (told a)
     by (inl h) = owed (Owed (take (2 * n) l)) Q (weaker (take (2 * n) l)) (told a) (o.front h).owed
     by (inr h) = subst (λ (r : R). OfValue Q (told r)) (sym (o.many h)) none
-
-module _ (xs : List Vertex) (h : 256 < length xs) where
-  pub place_too_many : (x : Place) → OfPlace x (flattened xs) (c_reply (turned_down 3))
-  place_too_many x = ap c_reply (point_too_many xs h (point_of x)).equal
-
-  pub ball_too_many : (x : Ball) → OfBall x (flattened xs) (c_reply (turned_down 3))
-  ball_too_many x = ap c_reply (sphere_too_many xs h (sphere_of x)).equal
-
-  pub bounds_too_many : (x : Bounds) → OfBounds x (flattened xs) (c_reply (turned_down 3))
-  bounds_too_many x = ap c_reply (box_too_many xs h (box_of x)).equal
-
-  pub bar_too_many : (x : Bar) → OfBar x (flattened xs) (c_cylinder_reply (turned_down 3))
-  bar_too_many x = ap c_cylinder_reply (cylinder_too_many xs h (cylinder_of x)).equal
