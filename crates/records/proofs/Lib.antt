@@ -1,4 +1,3 @@
--- The copying loop (FrontFilled), too many vertices (TooMany), and the replies that are made of the answers (Replied).
+-- The copying loop (FrontFilled), and too many vertices (TooMany).
 pub mod FrontFilled
 pub mod TooMany
-pub mod Replied

@@ -25,7 +25,6 @@ fn point_reply(items: &[f64; 512], n: usize, place: Place) -> Reply
     reply_of(answer)
 }
 
-
 pub fn jorghipa_point_of(section: &[Vertex], place: Place) -> Reply
     ensures { result ≡ c_reply (point_answer (flattened section.now) (point_of place)) }
 {
@@ -45,7 +44,6 @@ fn sphere_reply(items: &[f64; 512], n: usize, ball: Ball) -> Reply
     let answer = sphere_front(items, n, sphere);
     reply_of(answer)
 }
-
 
 pub fn jorghipa_sphere_of(section: &[Vertex], ball: Ball) -> Reply
     ensures { result ≡ c_reply (sphere_answer (flattened section.now) (sphere_of ball)) }
@@ -67,7 +65,6 @@ fn box_reply(items: &[f64; 512], n: usize, bounds: Bounds) -> Reply
     reply_of(answer)
 }
 
-
 pub fn jorghipa_box_of(section: &[Vertex], bounds: Bounds) -> Reply
     ensures { result ≡ c_reply (box_answer (flattened section.now) (box_of bounds)) }
 {
@@ -87,7 +84,6 @@ fn cylinder_reply(items: &[f64; 512], n: usize, bar: Bar) -> CylinderReply
     let answer = cylinder_front(items, n, cylinder);
     cylinder_reply_of(answer)
 }
-
 
 pub fn jorghipa_cylinder_of(section: &[Vertex], bar: Bar) -> CylinderReply
     ensures { result ≡ c_cylinder_reply (cylinder_answer (flattened section.now) (cylinder_of bar) finest) }
