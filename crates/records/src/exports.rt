@@ -1,5 +1,5 @@
-// The C interface over vertex records: the section as a pointer to them and their count, the body and
-// the answer as records too. jorghipa_records.h declares it and says what the caller owes.
+// What the C interface over vertex records answers, body and answer as records too. The crate records_c
+// exports these functions under their names.
 ghost use Rattle.std.specs.Prelude.{◌≡◌};
 ghost use Rattle.section.specs.profile.Replies.{turned_down};
 ghost use Rattle.section.specs.Answers.{point_answer, sphere_answer, box_answer};
