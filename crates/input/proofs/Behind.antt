@@ -2,9 +2,9 @@
 use Prim.Native.Nat.{ℕ, ◌+◌, ◌≤◌}
 use native.Mathlib.Omega.{arith}
 use mathlib.Core.List.{List, [], ◌++◌}
-use mathlib.Core.Path.{◌≡◌, refl, sym, ap, ◌∙◌}
+use mathlib.Core.Path.{◌≡◌, sym, ap, ◌∙◌}
 use lib.ListN.{length, take}
-use lib.Seq.{sets, length-sets, length-take-le}
+use lib.Seq.{sets, length-take-le}
 use Rattle.std.specs.Prelude.{Option, None, Some}
 use Rattle.std.specs.Io.KnownBytes.{Consumes, Keeps}
 use Rattle.std.proofs.Common.{append_assoc}
@@ -24,18 +24,10 @@ takes_more (Some xs) (Some ys) None a b h k = elim k [ ]
 takes_more (Some xs) (Some ys) (Some zs) a b h k =
     h ∙ ap (λ (l : List ℕ). a ++ l) k ∙ sym (append_assoc a b zs)
 
-keeps_same : (o : Option (List ℕ)) → Keeps o o
-keeps_same None = tt
-keeps_same (Some xs) = refl
-
 pub nothing_read :
     {had left : Option (List ℕ)} (l : List ℕ) (n : ℕ) → Keeps had left → ReadsOn l n l n had left
 nothing_read {had} {left} l n h =
     record { came = []; kept = nothing_written l n; taken = keeps_nothing had left h }
-
--- before the first read
-pub none_yet : (had : Option (List ℕ)) (l : List ℕ) (n : ℕ) → ReadsOn l n l n had had
-none_yet had l n = nothing_read l n (keeps_same had)
 
 pub reads_more :
     {before mid after : List ℕ} {n m r : ℕ} {had between left : Option (List ℕ)} → ReadsOn before n mid m had between
