@@ -15,21 +15,17 @@ slice_bounds-put_bytes_line-end c =
 
 pub put_bytes_line-requires : goal.put_bytes_line-requires
 put_bytes_line-requires c =
-    omega (
-      arith,
-      (front_of_lem _ _ _ c.write_load-answer.ensures c.in-Bytes.is).room,
-      c.put_bytes_line-arg-1.given.0.1,
-    )
+    omega (arith, (front_of_lem _ _ _ c.write_load-answer.ensures c.in-Bytes.is).room)
 
 pub put_refused_line-requires : goal.put_refused_line-requires
-put_refused_line-requires c = refusal_room _ (search rules) c.put_refused_line-arg-1.given.0.1
+put_refused_line-requires c = refusal_room _ (search rules) (search rules)
 
 pub returns-in-Bytes : goal.returns-in-Bytes
 returns-in-Bytes c =
     bytes_printed _ _ (front_of_lem _ _ _ c.write_load-answer.ensures c.in-Bytes.is)
-    c.put_bytes_line-arg-1.given.0.1 c.put_bytes_line.ensures
+    (search rules) c.put_bytes_line.ensures
 
 pub returns-in-Refused : goal.returns-in-Refused
 returns-in-Refused c =
     refusal_printed _ _ _ (refused_of _ _ _ c.write_load-answer.ensures c.in-Refused.is) (search rules)
-    c.put_refused_line-arg-1.given.0.1 c.put_refused_line.ensures
+    (search rules) c.put_refused_line.ensures

@@ -11,7 +11,7 @@ pub put_load-end-requires : goal.put_load-end-requires
 put_load-end-requires c =
     let a = c.args in
     let range = in_range a.seed a.vertices (sym c.load_refusal-number.ensures ∙ c.if-number-ne0.false) in
-    (range.few, c.put_load-arg-1.given.0.1)
+    (range.few, (search rules))
 
 pub returns : goal.returns
 returns c =

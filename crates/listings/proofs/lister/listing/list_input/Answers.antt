@@ -10,21 +10,21 @@ use borrow.Author.Rules.{rules}
 use Rattle.listings.proofs.lister.listing.list_input.Goals as goal
 
 pub put_refusal_line-requires : goal.put_refusal_line-requires
-put_refusal_line-requires c = line_room _ _ (search rules) (search rules) c.put_refusal_line-arg-1.given.0.1
+put_refusal_line-requires c = line_room _ _ (search rules) (search rules) (search rules)
 
 pub slice_bounds-put_listing-end : goal.slice_bounds-put_listing-end
 slice_bounds-put_listing-end c =
     simp length-take (omega (
       arith,
       length_fits _ (sym c.length_answer-whole.ensures ∙ c.in-Accepted.is),
-      c.room-1.given.0,
+      c.room-1.given,
     ))
 
 pub returns-in-Refused : goal.returns-in-Refused
 unfolding input_listing
 returns-in-Refused c =
     rw (← c.length_answer-whole.ensures, c.in-Refused.is) (front_written c.put_refusal_line.ensures
-    (line_room _ _ (search rules) (search rules) c.put_refusal_line-arg-1.given.0.1))
+    (line_room _ _ (search rules) (search rules) (search rules)))
 
 pub returns-in-Accepted : goal.returns-in-Accepted
 unfolding input_listing listing

@@ -42,7 +42,7 @@ put_accepted-bytes-requires c =
     let chain = c.read_chain-chained.ensures.accepted _ c.in-Front.is in
     let section = c.read_section-section.ensures.accepted _ c.in-Front-section.is in
     listing_room _ (decided_second _ chain.good chain.front section.good) chain.front section.front
-    c.args.text.now c.put_accepted-arg-1.given.0.1
+    c.args.text.now (search rules)
 
 pub returns-in-Refused : goal.returns-in-Refused
 returns-in-Refused c =
@@ -59,4 +59,4 @@ returns-in-Front-section c =
     let chain = c.read_chain-chained.ensures.accepted _ c.in-Front.is in
     let section = c.read_section-section.ensures.accepted _ c.in-Front-section.is in
     listed _ (decided_second _ chain.good chain.front section.good) chain.front section.front _
-    c.put_accepted-arg-1.given.0.1 c.put_accepted-bytes.ensures
+    (search rules) c.put_accepted-bytes.ensures

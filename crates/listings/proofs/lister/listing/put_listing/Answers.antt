@@ -7,7 +7,7 @@ use borrow.Author.Rules.{rules}
 use Rattle.listings.proofs.lister.listing.put_listing.Goals as goal
 
 pub put_refusal_line-requires : goal.put_refusal_line-requires
-put_refusal_line-requires c = line_room _ _ (search rules) (search rules) c.put_refusal_line-arg-1.given.0.1
+put_refusal_line-requires c = line_room _ _ (search rules) (search rules) (search rules)
 
 pub returns-in-Bytes : goal.returns-in-Bytes
 returns-in-Bytes c =
@@ -17,4 +17,4 @@ returns-in-Bytes c =
 pub returns-in-Refused : goal.returns-in-Refused
 returns-in-Refused c =
     refused_front _ _ (sym c.in-Refused.is ∙ c.list_store-answer.ensures.answer) c.list_store-answer.ensures.buffer
-    (line_room _ _ (search rules) (search rules) c.put_refusal_line-arg-1.given.0.1) c.put_refusal_line.ensures
+    (line_room _ _ (search rules) (search rules) (search rules)) c.put_refusal_line.ensures

@@ -10,7 +10,6 @@ put_refusal_line-requires c =
     omega (
       arith,
       refusal_short c.args.number c.args.k (search rules) (search rules),
-      c.put_refusal_line-arg-1.given.0.1,
     )
 
 pub returns : goal.returns
@@ -19,5 +18,4 @@ returns c =
       arith,
       refusal_short c.args.number c.args.k
           (search rules) (search rules),
-      c.put_refusal_line-arg-1.given.0.1,
     ))

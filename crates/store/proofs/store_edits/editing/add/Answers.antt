@@ -36,7 +36,7 @@ returns-then-m-ge512 c =
 pub overflow_sub-last : goal.overflow_sub-last
 overflow_sub-last c =
     let read = c.chain_of-count in
-    omega (arith, some_read _ _ read.new.1.1.0 read.result c.requires.0 read.ensures.0 (search rules))
+    omega (arith, some_read _ _ read.new.order read.result c.requires.0 read.ensures.0 (search rules))
 
 pub length_with-requires : goal.length_with-requires
 length_with-requires c =
@@ -47,13 +47,13 @@ try_add-requires c = (
   (right_space _ _ c.requires.0).0,
   c.requires.1,
   c.if-m-ge512.false,
-  last_small _ _ c.chain_of-count.new.1.1.0 c.chain_of-count.result c.requires.0 c.chain_of-count.ensures.0 (search rules),
+  last_small _ _ c.chain_of-count.new.order c.chain_of-count.result c.requires.0 c.chain_of-count.ensures.0 (search rules),
 )
 
 pub returns : goal.returns
 returns c =
     add_done _ _ _ _ c.requires.0 (sym c.add_not_allowed.ensures ∙ c.if-add_not_allowed.false)
     c.chain_of-count.ensures.0 c.lowest-m.ensures c.if-m-ge512.false
-    (last_read _ _ c.chain_of-count.new.1.1.0 c.chain_of-count.result c.requires.0 c.chain_of-count.ensures.0
+    (last_read _ _ c.chain_of-count.new.order c.chain_of-count.result c.requires.0 c.chain_of-count.ensures.0
     (search rules))
     c.length_with.ensures c.try_add.ensures
