@@ -1,6 +1,5 @@
 -- `capi::given_edits::editing::role_of` meets its contract.
 use borrow.Author.Tests.{eq-eqb, ne_eqb}
-use borrow.Author.Rules.{rules}
 use Rattle.capi.proofs.given_edits.editing.role_of.Goals as goal
 
 pub returns-then-role-eq1 : goal.returns-then-role-eq1

@@ -1,5 +1,4 @@
 -- `capi::lists::lists::one_body_refusal` meets its contract.
-use borrow.Author.Rules.{rules}
 use borrow.Author.Tests.{eq-eqb, ne_eqb}
 use Rattle.section.specs.profile.Refusals.{refusal}
 use Rattle.capi.proofs.lists.lists.one_body_refusal.Goals as goal
