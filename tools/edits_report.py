@@ -1,34 +1,33 @@
 #!/usr/bin/env python3
-"""edits_report.py [REPO [CRATE..]]: says of each must-fail edit whether it is refused for what it changes.
+"""edits_report.py [--jobs N] [CRATE[/LABEL]..]: says of each wrong program of the must-fail edits whether it is refused for what it changes.
 
-Run it after `rt must-fail` or `rt ci`, in or on the repository. Several edits may stand in one file, each under its comment; rt
-says only that the file is refused. For each function that crates/CRATE/must-fail/LABEL.edit changes, this looks in
-target/must-fail/CRATE/LABEL/.log for an error in that function's own proof file, proofs/MODULE/FUNCTION/Proof.antt, and says
-one of
+Several wrong programs may stand in one .edit file, each under its comment, and rt says only that the file is refused. This applies
+each program by itself, in a copy of the repository, checks the function that it changes, and says one of
 
-    fact      a fact of its own fails; the declaration and the first words of the error are printed
-    shape     only 'has no `Need-..`', or a step of the code that the proof names is gone: the code's shape changed, and the edit
-              shows nothing
-    mixed     both: a fact fails where the shape changed too, so the fact may fail for that alone. Look at it
-    few       one file changes it at more places than it has facts that fail
-    carried   only 'was not admitted': it is refused for another function's sake
-    proved    the log says that the function is still proved
-    no file   the function has no proof file: the log says whether it is proved
-    silent    not proved, and no error stands in its file
+    fact      the prover asks for a fact that does not hold; the first words are printed
+    shape     only names of the proof are gone: the code's shape changed, and the edit shows nothing
+    carried   only for another function's sake
+    proved    the function is still proved; then the whole crate is checked, and what fails there is printed
+    bad       an `old:` text does not stand once in its file, or the text does not compile
 
-An edit of specs/ or of a line outside every function changes no function: for it the functions are named whose own facts fail.
-The last line counts; the exit status is 1 where an edited function has no failing fact of its own, 2 where a log is missing or
-older than its edit. Only the standard library; nothing is written.
+A program that changes a definition, or a line outside every function, is tried on the whole crate. The last line counts; the
+exit status is 1 unless all are facts. Run it when every crate is proved: it begins with what `rt check` kept.
 """
 import os
 import re
+import shutil
+import subprocess
 import sys
+import tempfile
+from concurrent.futures import ThreadPoolExecutor
+from queue import Queue
 
-ERROR = re.compile(r'^(?P<file>[^\s:]+\.antt):(?P<line>\d+):(?P<col>\d+): error: (?P<text>.*)$')
-FN = re.compile(r'^( *)(?:pub )?(?:extern "C" )?fn (\w+)', re.M)
+FN = re.compile(r'^( *)(?:pub )?(?:const )?(?:extern "C" )?fn (\w+)', re.M)
 IMPL = re.compile(r'^impl(?:<[^>]*>)? (\w+)', re.M)
-CARRIED = re.compile(r'was not admitted|were not admitted|is not accepted')
-SHAPE = re.compile(r'has no `Need-|`Need-[^`]*`[^`]* named from here|record `[^`]*\.Lts\.[^`]*`\s+has no field')
+ERROR = re.compile(r'^(?:so far: )?(?:\./)?(\S+?\.(?:antt|rt)):(\d+):\d+: error: (.*)$', re.M)
+OPEN = re.compile(r'^note: (?:\./)?(\S+?\.rt):\d+:\d+: it is not (?:proved|known) (.*)$', re.M)
+NAMES = re.compile(r'has no field|is not in scope|has no `|no such (?:goal|name)|that can be named from here')
+CARRIED = re.compile(r'was not admitted|were not admitted|was rejected|were rejected|this file exports no')
 
 
 def read(path):
@@ -36,19 +35,26 @@ def read(path):
         return f.read()
 
 
-def pairs(edit):
-    """(file, old, new, n) as rt reads them, n the number of the edit: a comment behind a replacement begins the next"""
-    f, old, n, open_ = None, '', 0, False
-    for l in read(edit).split('\n'):
-        if l.startswith('#') and open_:
-            n, open_ = n + 1, False
-        elif l.startswith('file: '):
-            f = l[6:]
-        elif l.startswith('old: '):
-            old = l[5:]
-        elif l.startswith('new:'):
-            yield f, old, l[4:].removeprefix(' '), n
-            old, open_ = '', True
+def programs(edit):
+    """[(name, [(file, old, new)])]: a comment behind a replacement begins the next program."""
+    out, file, old, name, open_ = [], None, '', '', True
+    for line in read(edit).split('\n'):
+        if line.startswith('#'):
+            if open_:
+                name, open_ = line[1:].strip(), False
+                out.append([name, []])
+            elif not out[-1][1]:
+                out[-1][0] = line[1:].strip() if line.startswith('# ') and ': ' in line else out[-1][0]
+        elif line.startswith('file: '):
+            file = line[6:]
+        elif line.startswith('old: '):
+            old = line[5:]
+        elif line.startswith('new:'):
+            if not out:
+                out.append([os.path.basename(edit), []])
+            out[-1][1].append((file, old, line[4:].removeprefix(' ')))
+            open_ = True
+    return [(n, r) for n, r in out if r]
 
 
 def function_at(text, at):
@@ -61,11 +67,8 @@ def function_at(text, at):
     if re.search(r'^' + k.group(1) + r'\}', text[k.start():at], re.M):
         return None                          # it ended before
     name = [k.group(2)]
-    if k.group(1):
-        impl = [i for i in IMPL.finditer(text) if i.start() < k.start()]
-        if impl:
-            name.insert(0, impl[-1].group(1))
-    return name
+    impl = [i for i in IMPL.finditer(text) if i.start() < k.start()] if k.group(1) else []
+    return [impl[-1].group(1)] + name if impl else name
 
 
 def module_of(file):
@@ -74,83 +77,85 @@ def module_of(file):
     return [] if rel in ('lib', 'main') else rel.split('/')
 
 
-def kind_of(text):
-    return 'carried' if CARRIED.search(text) else 'shape' if SHAPE.search(text) else 'fact'
+def check(folder, only):
+    words = ['rt', 'check', '--jobs', '1'] + (['--only', only] if only else [])
+    return subprocess.run(words, cwd=folder, stdout=subprocess.PIPE, stderr=subprocess.STDOUT, text=True, errors='replace').stdout
 
 
-def one(repo, crate, label):
-    """[(function or file, verdict, words)] of an edit; None where there is no log of it."""
-    where, edit = f'{repo}/target/must-fail/{crate}/{label}', f'{repo}/crates/{crate}/must-fail/{label}.edit'
-    if not os.path.isfile(f'{where}/.log') or os.path.getmtime(f'{where}/.log') < os.path.getmtime(edit):
-        return None
-    log = read(f'{where}/.log').split('\n')
-    errors = {}                              # proof file: [(kind, line, text)]
-    for i, l in enumerate(log):
-        k = ERROR.match(l)
-        if k:
-            rel = k['file'].split(f'/must-fail/{crate}/{label}/', 1)[-1]
-            more = i + 1                     # an error's further lines are indented
-            while more < len(log) and log[more].startswith(' '):
-                more += 1
-            errors.setdefault(rel, []).append((kind_of('\n'.join([k['text']] + log[i + 1:more])), k['line'], k['text']))
-    said = {k.group(1): k.group(2) for l in log if (k := re.match(r'fn (\S+): (proved|not proved.*)$', l))}
-    rows, texts, changed = [], {}, {}        # changed: {function or file: (file, name, the numbers of the edits that change it)}
-    for file, old, new, n in pairs(edit):
-        if file not in texts:
-            texts[file] = read(f'{repo}/crates/{crate}/{file}')
-        if texts[file].count(old) != 1:
-            return None
-        at = texts[file].index(old)
-        name = function_at(texts[file], at) if file.startswith('src/') else None
-        texts[file] = texts[file].replace(old, new)
-        changed.setdefault('::'.join([crate] + module_of(file) + name) if name else file, (file, name, set()))[2].add(n)
-    for path, (file, name, numbers) in changed.items():
-        if not name:
-            facts = [f'{f}:{line}' for f, es in errors.items() for kind, line, _ in es if kind == 'fact']
-            more = f' and {len(facts) - 4} more' if len(facts) > 4 else ''
-            rows.append((path, 'facts' if facts else 'none', ', '.join(facts[:4]) + more))
-            continue
-        proof = '/'.join(['proofs'] + module_of(file) + name + ['Proof.antt'])
-        own = errors.get(proof, [])
-        state = said.get(path, 'not named in the log')
-        kinds = {k for k, _, _ in own}
-        if 'fact' in kinds:
-            facts = [(line, text) for k, line, text in own if k == 'fact']
-            verdict = 'mixed' if 'shape' in kinds else 'few' if len({line for line, _ in facts}) < len(numbers) else 'fact'
-            words = ', '.join(f'{proof}:{line}: {text[:90]}' for line, text in facts[:len(numbers)])
-        elif own:
-            verdict = 'shape' if 'shape' in kinds else 'carried'
-            words = f'{proof}:{own[0][1]}: {own[0][2][:90]}'
-        elif state == 'proved':
-            verdict, words = 'proved', ''
-        elif not os.path.isfile(f'{repo}/crates/{crate}/{proof}'):
-            verdict, words = 'no file', state
-        else:
-            verdict, words = 'silent', state
-        rows.append((path, verdict, words))
-    return rows
+def verdict(said):
+    facts = [f'{f}:{l}: {t}' for f, l, t in ERROR.findall(said) if not NAMES.search(t) and not CARRIED.search(t)]
+    facts += [f'{f}: not proved {t}' for f, t in OPEN.findall(said)]
+    if re.search(r'^\S+: error\[|error\[[\w-]+\]:', said, re.M):
+        return 'bad', re.search(r'.*error\[.*', said)[0]
+    if facts:
+        return 'fact', facts[0]
+    names = [t for _, _, t in ERROR.findall(said) if NAMES.search(t)]
+    if names:
+        return 'shape', names[0]
+    if ERROR.search(said) or re.search(r'^fn .*: (not proved|no proof)', said, re.M):
+        return 'carried', (ERROR.search(said) or re.search(r'^fn .*: (?:not proved|no proof).*', said, re.M))[0]
+    return 'proved', said.strip().split('\n')[-1]
+
+
+def one(room, crate, replaced):
+    folder, kept, only = f'{room}/crates/{crate}', {}, set()
+    try:
+        for file, old, new in replaced:
+            path = f'{folder}/{file}'
+            text = read(path)
+            kept.setdefault(path, text)
+            if text.count(old) != 1:
+                return 'bad', f'{file}: {text.count(old)} times: {old}'
+            name = function_at(text, text.index(old)) if file.startswith('src/') else None
+            only.add('::'.join([crate] + module_of(file) + name) if name else '')
+            with open(path, 'w', encoding='utf8') as f:
+                f.write(text.replace(old, new))
+        if '' not in only:
+            told = [verdict(check(folder, it)) for it in sorted(only)]
+            best = next((it for it in told if it[0] in ('fact', 'bad')), None) or next((it for it in told if it[0] != 'proved'), None)
+            if best:
+                return best
+        kind, words = verdict(check(folder, ''))
+        return (kind if '' in only else 'proved'), words
+    finally:
+        for path, text in kept.items():
+            with open(path, 'w', encoding='utf8') as f:
+                f.write(text)
 
 
 def main():
-    repo = sys.argv[1] if len(sys.argv) > 1 else '.'
-    crates = sys.argv[2:] or sorted(os.listdir(f'{repo}/crates'))
-    count, missing = {}, 0
-    for crate in crates:
-        folder = f'{repo}/crates/{crate}/must-fail'
+    words = sys.argv[1:]
+    jobs = int(words[words.index('--jobs') + 1]) if '--jobs' in words else 2
+    asked = [it for i, it in enumerate(words) if not it.startswith('--') and (not i or words[i - 1] != '--jobs')]
+    rows = []
+    for crate in sorted(os.listdir('crates')):
+        folder = f'crates/{crate}/must-fail'
         for n in sorted(os.listdir(folder)) if os.path.isdir(folder) else []:
-            if not n.endswith('.edit'):
-                continue
             label = n.removesuffix('.edit')
-            rows = one(repo, crate, label)
-            if rows is None:
-                missing += 1
-                continue
-            for path, verdict, words in rows:
-                count[verdict] = count.get(verdict, 0) + 1
-                print(f'{verdict:8} {crate}/{label}: {path}' + (f'  ({words})' if words else ''))
-    print(', '.join(f'{v} {k}' for k, v in sorted(count.items())) + f'; {missing} edits without a log of their present text')
-    bad = sum(v for k, v in count.items() if k not in ('fact', 'facts'))
-    sys.exit(1 if bad else 2 if missing else 0)
+            if n.endswith('.edit') and (not asked or crate in asked or f'{crate}/{label}' in asked):
+                rows += [(crate, label, name, replaced) for name, replaced in programs(f'{folder}/{n}')]
+    top, rooms = tempfile.mkdtemp(prefix='edits-'), Queue()
+    try:
+        for i in range(jobs):
+            shutil.copytree('crates', f'{top}/{i}/crates', symlinks=True)
+            shutil.copy('crates.txt', f'{top}/{i}/crates.txt')
+            rooms.put(f'{top}/{i}')
+
+        def tried(row):
+            room = rooms.get()
+            try:
+                kind, said = one(room, row[0], row[3])
+            finally:
+                rooms.put(room)
+            print(f'{kind:8} {row[0]}/{row[1]}: {row[2][:60]}  ({said[:150]})', flush=True)
+            return kind
+
+        with ThreadPoolExecutor(jobs) as pool:
+            kinds = list(pool.map(tried, rows))
+    finally:
+        shutil.rmtree(top, ignore_errors=True)
+    print(', '.join(f'{kinds.count(k)} {k}' for k in sorted(set(kinds))))
+    sys.exit(0 if set(kinds) <= {'fact'} else 1)
 
 
 if __name__ == '__main__':

@@ -3,7 +3,7 @@ ghost use Rattle.std.specs.Prelude.{◌≡◌};
 ghost use Rattle.section.specs.profile.Replies.{Answers};
 ghost use Rattle.walk.specs.cylinders.Cylinders.{told};
 ghost use Rattle.bodies.specs.Bodies.{body_answer, BodyPromised, boxes_only};
-ghost use Rattle.bodies.specs.declared.shapes.Body.TheVariants as body·kinds;
+ghost use Rattle.bodies.specs.declared.shapes.Body.TheVariants as body_kinds;
 
 use super::shapes::Body;
 use section::{
@@ -24,7 +24,7 @@ fn boxes_only(hit: CollisionHit, boxes: usize) -> CountedHit
 }
 
 fn query_sphere(section: &[f64], sphere: Sphere, settings: Settings) -> CountedAnswer
-    ensures { let s = section.now in let b = body·kinds.Sphere sphere in
+    ensures { let s = section.now in let b = body_kinds.Sphere sphere in
         Answers (told result) (body_answer s b settings) (BodyPromised s b settings) }
 {
     let none = [0.0; 0];
@@ -36,7 +36,7 @@ fn query_sphere(section: &[f64], sphere: Sphere, settings: Settings) -> CountedA
 }
 
 fn query_box(section: &[f64], x: Aabb, settings: Settings) -> CountedAnswer
-    ensures { let s = section.now in let b = body·kinds.Box x in
+    ensures { let s = section.now in let b = body_kinds.Box x in
         Answers (told result) (body_answer s b settings) (BodyPromised s b settings) }
 {
     let none = [0.0; 0];

@@ -2,14 +2,14 @@
 ghost use Rattle.std.specs.Prelude.{◌≡◌};
 ghost use Rattle.section.specs.profile.Refusals.{refusal};
 ghost use Rattle.bodies.specs.Bodies.{alone_tests};
-ghost use Rattle.bodies.specs.declared.shapes.Body.TheVariants as body·kinds;
+ghost use Rattle.bodies.specs.declared.shapes.Body.TheVariants as body_kinds;
 
 use super::shapes::Body;
 use section::{Aabb, Sphere, alone_refusal, bounds_refusal, radius_refusal};
 use walk::{Cylinder, axis_of, own_refusal};
 
 fn sphere_alone(b: Sphere) -> u32
-    ensures { result ≡ refusal (alone_tests (body·kinds.Sphere b)) }
+    ensures { result ≡ refusal (alone_tests (body_kinds.Sphere b)) }
 {
     let c = b.center;
     let numbers = [c.x, c.y, c.z, b.radius];
@@ -17,14 +17,14 @@ fn sphere_alone(b: Sphere) -> u32
 }
 
 fn box_alone(x: Aabb) -> u32
-    ensures { result ≡ refusal (alone_tests (body·kinds.Box x)) }
+    ensures { result ≡ refusal (alone_tests (body_kinds.Box x)) }
 {
     let numbers = [x.z0, x.z1, x.r0, x.r1];
     alone_refusal(&numbers[..], bounds_refusal(x))
 }
 
 fn cylinder_alone(c: Cylinder) -> u32
-    ensures { result ≡ refusal (alone_tests (body·kinds.Cylinder c)) }
+    ensures { result ≡ refusal (alone_tests (body_kinds.Cylinder c)) }
 {
     let a = c.a;
     let b = c.b;

@@ -14,7 +14,7 @@ use Rattle.section.specs.profile.Refusals.{refusal, any_of}
 use Rattle.section.proofs.profile.Each.{All, nil, cons}
 use Rattle.section.proofs.profile.Refusals.Passed.{NumberTaken, passed}
 use Rattle.arith.proofs.roots.Numbers.{decide}
-use Rattle.store.specs.Records.{records, next, number}
+use Rattle.store.specs.Records.{records, next}
 use Rattle.store.specs.Chain.{whole, member, follow, chain, in_order}
 use Rattle.store.specs.First.{first_refused}
 use Rattle.store.specs.Kinds.{right_kind, kinds_answer}

@@ -2,7 +2,7 @@
 ghost use Rattle.std.specs.Prelude.{◌≡◌, ◌≤◌, length};
 ghost use Rattle.section.specs.profile.Refusals.{refusal};
 ghost use Rattle.loads.specs.Load.{load_tests, load_answer, LoadWritten};
-ghost use Rattle.loads.specs.Load as load·specs;
+ghost use Rattle.loads.specs.Load as load_specs;
 ghost use Rattle.listings.specs.store_listing.Listing.{Prints};
 
 use super::answers::LoadAnswer;
@@ -27,7 +27,7 @@ fn load_refusal(seed: u64, vertices: u64) -> u32
 // How many bytes the store of n vertices has, at the front of the space.
 fn put_load(space: &mut [u8], seed: u64, n: usize) -> usize
     requires { (n ≤ 256) × (length space.old ≡ 20480) }
-    ensures { Prints (load·specs.load seed n) space.old space.new result }
+    ensures { Prints (load_specs.load seed n) space.old space.new result }
 {
     put_record(space, 0, 1, 0, 0, 0, 0, 0);
     let state = put_vertices(space, seed, n);

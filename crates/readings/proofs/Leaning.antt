@@ -2,7 +2,6 @@
 -- definitions give them, by computation.
 use mathlib.Core.Bool.{Bool, true, false}
 use mathlib.Core.Path.{◌≡◌, refl}
-use mathlib.Core.List.{List, [], ◌∷◌}
 use lib.IntN.{negsuc}
 use lib.Ieee.{Float, fin, of_int, neg, add, sub, mul, div, lt, le, of_bits}
 use Rattle.arith.specs.Num.{is_finite}
@@ -10,7 +9,7 @@ use Rattle.arith.specs.Vector.{vec}
 use Rattle.arith.specs.roots.Roots.{sqrt, hypot}
 use Rattle.section.specs.profile.Vertices.{upto, any}
 use Rattle.section.specs.profile.Refusals.{any_below_axis, refusal, any_of}
-use Rattle.section.specs.profile.Replies.{Reply, value}
+use Rattle.section.specs.profile.Replies.{value}
 use Rattle.section.specs.segments.Segments.{closest_point, closest, closest_places, segments}
 use Rattle.section.specs.segments.Clip.{clip_side, clip}
 use Rattle.section.specs.points.Points.{surface_step, surface_near, crosses, point_inside, inside_axis_edge, in_section, point_distance}
@@ -23,7 +22,7 @@ use Rattle.walk.specs.bands.Band.{bar, axial_box, band_of, half_width, span_at}
 use Rattle.walk.specs.declared.bands.shapes.Cylinder.{Cylinder}
 use Rattle.walk.specs.Walk.{band_distance}
 use Rattle.walk.specs.cylinders.Cylinders.{cylinder_distance}
-use Rattle.bodies.specs.declared.shapes.Body.TheVariants as body·kinds
+use Rattle.bodies.specs.declared.shapes.Body.TheVariants as body_kinds
 use Rattle.bodies.specs.verdicts.Verdicts.{body_verdict}
 use Rattle.readings.proofs.Readings.{S, mm}
 
@@ -44,7 +43,7 @@ abbrev pub along_y : Cylinder
 along_y = bar (vec (neg sixteenth) (mm 12) (mm 10)) (vec sixteenth (mm 1036) (mm 10)) (mm 0)
 
 abbrev pub Collides : Cylinder → Float → Bool → Type 0
-Collides c clearance collision = body_verdict S (body·kinds.Cylinder c) clearance ≡ value collision
+Collides c clearance collision = body_verdict S (body_kinds.Cylinder c) clearance ≡ value collision
 
 -- a collision at the distance; clear at 3 - 5/128 and 2 - 1/16, where it is judged
 pub record LeaningBars : Type 0 where

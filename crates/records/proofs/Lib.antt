@@ -1,5 +1,3 @@
--- The copying loop without its machine (Filled), what its end gives (Answered, Replied), and the walk through its code (Layer).
+-- The copying loop (FrontFilled), and too many vertices (TooMany).
 pub mod FrontFilled
-pub mod Answered
-pub mod Replied
-pub mod Layer
+pub mod TooMany

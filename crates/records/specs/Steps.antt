@@ -9,7 +9,7 @@ use Rattle.section.specs.declared.shapes.Answer.{Answer}
 use Rattle.section.specs.declared.profile.shapes.Sphere.{Sphere}
 use Rattle.section.specs.declared.profile.shapes.Vertex.{Vertex}
 use Rattle.walk.specs.cylinders.Promised.{Promised}
-use Rattle.walk.specs.cylinders.Cylinders.{told as cylinderTold, cylinder_answer}
+use Rattle.walk.specs.cylinders.Cylinders.{told as cylinder_told, cylinder_answer}
 use Rattle.walk.specs.declared.bands.shapes.Cylinder.{Cylinder}
 use Rattle.walk.specs.settings.Settings.{finest}
 use Rattle.walk.specs.declared.cylinders.shapes.CountedAnswer.{CountedAnswer}
@@ -41,7 +41,7 @@ abbrev pub OfBox : Aabb → List Float → Answer → Type 0
 OfBox x s r = Answers (told r) (box_answer s x) (Bounded s)
 
 abbrev pub OfCylinder : Cylinder → List Float → CountedAnswer → Type 0
-OfCylinder c s r = Answers (cylinderTold r) (cylinder_answer s c finest) (Promised s c finest)
+OfCylinder c s r = Answers (cylinder_told r) (cylinder_answer s c finest) (Promised s c finest)
 
 -- a cylinder's hit has an edge of at most 256
 abbrev pub FewEdgesOf : CountedHit → Type 0

@@ -1,5 +1,5 @@
-// The C interface over vertex records: the section as a pointer to them and their count, the body and
-// the answer as records too. jorghipa_records.h declares it and says what the caller owes.
+// What the C interface over vertex records answers, body and answer as records too. The crate records_c
+// exports these functions under their names.
 ghost use Rattle.std.specs.Prelude.{◌≡◌};
 ghost use Rattle.section.specs.profile.Replies.{turned_down};
 ghost use Rattle.section.specs.Answers.{point_answer, sphere_answer, box_answer};
@@ -25,8 +25,7 @@ fn point_reply(items: &[f64; 512], n: usize, place: Place) -> Reply
     reply_of(answer)
 }
 
-#[unsafe(no_mangle)]
-pub extern "C" fn jorghipa_point_of(section: &[Vertex], place: Place) -> Reply
+pub fn jorghipa_point_of(section: &[Vertex], place: Place) -> Reply
     ensures { result ≡ c_reply (point_answer (flattened section.now) (point_of place)) }
 {
     let mut items = blank();
@@ -46,8 +45,7 @@ fn sphere_reply(items: &[f64; 512], n: usize, ball: Ball) -> Reply
     reply_of(answer)
 }
 
-#[unsafe(no_mangle)]
-pub extern "C" fn jorghipa_sphere_of(section: &[Vertex], ball: Ball) -> Reply
+pub fn jorghipa_sphere_of(section: &[Vertex], ball: Ball) -> Reply
     ensures { result ≡ c_reply (sphere_answer (flattened section.now) (sphere_of ball)) }
 {
     let mut items = blank();
@@ -67,8 +65,7 @@ fn box_reply(items: &[f64; 512], n: usize, bounds: Bounds) -> Reply
     reply_of(answer)
 }
 
-#[unsafe(no_mangle)]
-pub extern "C" fn jorghipa_box_of(section: &[Vertex], bounds: Bounds) -> Reply
+pub fn jorghipa_box_of(section: &[Vertex], bounds: Bounds) -> Reply
     ensures { result ≡ c_reply (box_answer (flattened section.now) (box_of bounds)) }
 {
     let mut items = blank();
@@ -88,8 +85,7 @@ fn cylinder_reply(items: &[f64; 512], n: usize, bar: Bar) -> CylinderReply
     cylinder_reply_of(answer)
 }
 
-#[unsafe(no_mangle)]
-pub extern "C" fn jorghipa_cylinder_of(section: &[Vertex], bar: Bar) -> CylinderReply
+pub fn jorghipa_cylinder_of(section: &[Vertex], bar: Bar) -> CylinderReply
     ensures { result ≡ c_cylinder_reply (cylinder_answer (flattened section.now) (cylinder_of bar) finest) }
 {
     let mut items = blank();

@@ -3,13 +3,13 @@
 ghost use Rattle.section.specs.profile.Replies.{Answers};
 ghost use Rattle.section.specs.Answers.{told, point_answer, sphere_answer, box_answer};
 ghost use Rattle.section.specs.Demand.{Bounded, BoundedOffAxis};
-ghost use Rattle.walk.specs.cylinders.Cylinders.{told as cylinderTold, cylinder_answer};
+ghost use Rattle.walk.specs.cylinders.Cylinders.{told as cylinder_told, cylinder_answer};
 ghost use Rattle.walk.specs.cylinders.Promised.{Promised};
 ghost use Rattle.walk.specs.settings.Settings.{finest};
 ghost use Rattle.records.specs.Flattened.{flattened};
 ghost use Rattle.records.specs.Steps.{OfFront, OfPoint, OfSphere, OfBox, OfCylinder};
 ghost use Rattle.section.specs.declared.shapes.Answer.TheVariants as answers;
-ghost use Rattle.walk.specs.declared.cylinders.shapes.CountedAnswer.TheVariants as cylinder-answers;
+ghost use Rattle.walk.specs.declared.cylinders.shapes.CountedAnswer.TheVariants as cylinder_answers;
 
 use super::copying::{blank, numbers_of, put};
 use arith::Vec3;
@@ -86,7 +86,7 @@ pub fn aabb_polygon_distance_of(section: &[Vertex], bounds: Aabb) -> Answer
 }
 
 pub fn cylinder_front(items: &[f64; 512], n: usize, cylinder: Cylinder) -> CountedAnswer
-    ensures { OfFront (OfCylinder cylinder) (cylinder-answers.Refused 3) items.now n result }
+    ensures { OfFront (OfCylinder cylinder) (cylinder_answers.Refused 3) items.now n result }
 {
     if n > 256 {
         return CountedAnswer::Refused(3);
@@ -98,7 +98,7 @@ pub fn cylinder_front(items: &[f64; 512], n: usize, cylinder: Cylinder) -> Count
 
 pub fn query_cylinder_of(section: &[Vertex], cylinder: Cylinder) -> CountedAnswer
     ensures { let s = flattened section.now in
-        Answers (cylinderTold result) (cylinder_answer s cylinder finest) (Promised s cylinder finest) }
+        Answers (cylinder_told result) (cylinder_answer s cylinder finest) (Promised s cylinder finest) }
 {
     let mut items = blank();
     let n = section.len();

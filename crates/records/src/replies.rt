@@ -3,7 +3,7 @@ ghost use Rattle.std.specs.Prelude.{◌≡◌};
 ghost use Rattle.section.specs.profile.Replies.{OfValue};
 ghost use Rattle.section.specs.Answers.{told};
 ghost use Rattle.section.specs.Demand.{FewEdges};
-ghost use Rattle.walk.specs.cylinders.Cylinders.{told as cylinderTold};
+ghost use Rattle.walk.specs.cylinders.Cylinders.{told as cylinder_told};
 ghost use Rattle.records.specs.Replies as replies;
 ghost use Rattle.records.specs.Steps.{FewEdgesOf};
 
@@ -152,8 +152,8 @@ pub fn reply_of(answer: Answer) -> Reply
 }
 
 pub fn cylinder_reply_of(answer: CountedAnswer) -> CylinderReply
-    requires { OfValue FewEdgesOf (cylinderTold answer) }
-    ensures { result ≡ replies.c_cylinder_reply (cylinderTold answer) }
+    requires { OfValue FewEdgesOf (cylinder_told answer) }
+    ensures { result ≡ replies.c_cylinder_reply (cylinder_told answer) }
 {
     match answer {
         CountedAnswer::Hit(h) => {

@@ -1,7 +1,7 @@
 -- CYLINDERS ACROSS THE SPINDLE, WITH NOTHING GIVEN: box distance is true of the section's edges, and of the solid where the
 -- section is sound, so what the walk makes of it is. Of every section and every cylinder that is not turned down, at both
 -- reaches.
-use Prim.Native.Nat.{◌+◌, ℕ}
+use Prim.Native.Nat.{ℕ}
 use mathlib.Core.Bool.{false}
 use mathlib.Core.List.{◌++◌, ◌∷◌, [], List}
 use mathlib.Core.Path.{◌≡◌}

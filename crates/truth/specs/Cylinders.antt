@@ -65,10 +65,10 @@ abbrev pub Margin : Float → Float → ℕ → Type 0
 Margin radius tol v = (size radius ≤ v) ⊎ ((size tol ≤ v) × (2 * (size radius * size tol) ≤ v * v))
 
 -- w units, told by a walk that was cut or was not, are kept: uncut but for the margin and ε, cut but for ε
-pub record Kept (ε w : ℕ) (radius tol : Float) (wasCut : Bool) (Points : ℕ → ℕ → ℕ → ℕ → Type 0)
+pub record Kept (ε w : ℕ) (radius tol : Float) (was_cut : Bool) (Points : ℕ → ℕ → ℕ → ℕ → Type 0)
     (Counts : ℕ → ℕ → ℕ → Type 0) : Type 0 where
-  pub uncut : wasCut ≡ false → (v : ℕ) → Margin radius tol v → Clear (v + ε) w Points Counts
-  pub cut : wasCut ≡ true → Clear ε w Points Counts
+  pub uncut : was_cut ≡ false → (v : ℕ) → Margin radius tol v → Clear (v + ε) w Points Counts
+  pub cut : was_cut ≡ true → Clear ε w Points Counts
 
 -- uncut, the distance exceeds the exact one by no more than the margin and ε; cut, by no more than ε
 abbrev pub AnswerTrue : ℕ → Float → Float → CountedHit → (ℕ → ℕ → ℕ → ℕ → Type 0) → (ℕ → ℕ → ℕ → Type 0) → Type 0
@@ -133,9 +133,9 @@ TrueAcross ε c t Counts a = T (across_spindle (axis c)) → AnswerTrue ε c.rad
 
 -- of a verdict of clear: the exact distance from every point of the straightened cylinder, and from every point of the leaning
 -- one, is at least the clearance, less ε, and less the margin at 1e-9 where the walk was not cut
-pub record ClearOf (ε : ℕ) (c : Cylinder) (clearance : Float) (Counts : ℕ → ℕ → ℕ → Type 0) (wasCut : Bool) : Type 0 where
-  pub straightened : Kept ε (units clearance) c.radius e_9 wasCut (PointOf (axis c) c) Counts
-  pub leaning : Kept ε (units clearance) c.radius e_9 wasCut (LeaningOf (axis c) c) Counts
+pub record ClearOf (ε : ℕ) (c : Cylinder) (clearance : Float) (Counts : ℕ → ℕ → ℕ → Type 0) (was_cut : Bool) : Type 0 where
+  pub straightened : Kept ε (units clearance) c.radius e_9 was_cut (PointOf (axis c) c) Counts
+  pub leaning : Kept ε (units clearance) c.radius e_9 was_cut (LeaningOf (axis c) c) Counts
 
 abbrev pub KeptAcross : ℕ → Cylinder → Float → (ℕ → ℕ → ℕ → Type 0) → Bool → Type 0
-KeptAcross ε c clearance Counts wasCut = T (across_spindle (axis c)) → ClearOf ε c clearance Counts wasCut
+KeptAcross ε c clearance Counts was_cut = T (across_spindle (axis c)) → ClearOf ε c clearance Counts was_cut

@@ -18,8 +18,8 @@ unfoldable pub area : (az ar bz br z r : ℕ) → ℕ
 area az ar bz br z r = az * br + (ar * z + r * bz)
 
 -- an edge, of whose ends a and b one or the other lies above p, crosses the line from p along z strictly beyond p
-abbrev pub crossing : (a-above b-above up down : Bool) → Bool
-crossing a-above b-above up down = unlike a-above b-above && cond b-above up down
+abbrev pub crossing : (a_above b_above up down : Bool) → Bool
+crossing a_above b_above up down = unlike a_above b_above && cond b_above up down
 
 -- the edge from a to b crosses the line from (z, r) along z strictly beyond it
 abbrev pub crosses_at : (z r az ar bz br : ℕ) → Bool

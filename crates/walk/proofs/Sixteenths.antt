@@ -1,6 +1,6 @@
 -- i · 0.0625 and i / 16 are the same f64, for each i from 0 to 16: the law of reciprocals at 16.
 use Prim.Native.Nat.{ℕ, ◌≤◌}
-use mathlib.Core.Path.{◌≡◌, subst, sym}
+use mathlib.Core.Path.{◌≡◌, subst}
 use lib.IntN.{pos}
 use lib.Ieee.{binary64, of_int}
 use Rattle.arith.specs.F64.{◌⊗◌}

@@ -1,6 +1,6 @@
 -- 01's walk over the pieces of a cylinder across the spindle, with 02's settings in the places of 01's numbers: the agreement
 -- tolerance for 1e-9, the most boxes for 8,192, the number n of sampling intervals for 16.
-use Rattle.std.specs.Prelude.{ℕ, zero, suc, ◌+◌, max as maxℕ, Bool, true, false, not, ◌&&◌, cond, List, [], ◌∷◌, length, pos, Float}
+use Rattle.std.specs.Prelude.{ℕ, zero, suc, max as maxℕ, Bool, true, false, not, ◌&&◌, cond, List, [], ◌∷◌, length, pos, Float}
 use Rattle.std.specs.Float.{binary64}
 use Rattle.std.specs.Float.Ieee.{of_int}
 use Rattle.arith.specs.F64.{◌⊕◌, ◌⊖◌, ◌⊗◌, ◌⊘◌, ◌≺◌, ◌≼◌, 𝟘, ∞, e_12, e_15}

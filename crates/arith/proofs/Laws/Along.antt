@@ -1,6 +1,6 @@
 -- A point a + d·s of a segment, 0 ≤ s ≤ 1, as rounded: no lower than the lower of its computed ends a and a + d, no higher than the
 -- higher. By monotone rounding: d·s lies from 0 to d. A NaN is neither lower nor higher.
-use Rattle.std.proofs.Common.{◌≡◌, ℕ, ◌+◌, ◌-◌, ◌*◌, ◌<◌, ◌≤◌, Bool, true, false, cond, not, T, sym, refl, ap, ◌∙◌, subst, inl, inr, le_trans, le_of_eq, le_of_lt, add-mul, mul-le-mul_left, zero-mul, arith, pow_pos, le-ltb}
+use Rattle.std.proofs.Common.{◌≡◌, ℕ, ◌+◌, ◌*◌, ◌<◌, ◌≤◌, Bool, true, false, cond, not, T, sym, refl, ap, ◌∙◌, subst, inl, inr, le_trans, le_of_eq, le_of_lt, add-mul, mul-le-mul_left, zero-mul, arith, pow_pos, le-ltb}
 use lib.Ieee.{add, fin, Float, Format, inf, lt, mul, nan, sub}
 use Rattle.arith.proofs.roots.Numbers.{decide}
 use Rattle.arith.proofs.roots.Rounding.Key.{finite_inside, finite_number, key, key_is, magnitude, mid, mid_pos, negative, number}

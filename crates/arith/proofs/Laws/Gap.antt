@@ -1,6 +1,6 @@
 -- Two numbers from ranges that lie apart: their rounded difference is no less than the rounded gap, so that a hypot with this leg is no
 -- less than what the gap reaches. By monotone differences, and by cases where an operand is infinite or a NaN.
-use Rattle.std.proofs.Common.{◌≡◌, ℕ, ◌+◌, ◌≤◌, Bool, true, false, not, T, sym, refl, ◌∙◌, subst, le_trans, le_of_eq, arith}
+use Rattle.std.proofs.Common.{◌≡◌, ℕ, ◌+◌, ◌≤◌, Bool, true, false, not, T, sym, refl, subst, le_trans, le_of_eq, arith}
 use lib.Ieee.{add, fin, fits, Float, Format, inf, is_nan, le, lt, nan, neg, sub}
 use lib.Ieee.Fits.{and_i, and_l, sub-fits}
 use Rattle.arith.specs.roots.Roots.{hypot}
@@ -11,7 +11,7 @@ use Rattle.arith.proofs.roots.Rounding.RoundKey.{round_key}
 use Rattle.arith.proofs.roots.Rounding.Sum.{neg_key, sub_key, sub_number}
 use Rattle.arith.proofs.Laws.Along.{add_nan}
 use Rattle.arith.proofs.Laws.Extended.{neg_number}
-use Rattle.arith.proofs.Laws.Hypot.{hypot_comm, hypot_neg, inf_key, inf_number, le_inf}
+use Rattle.arith.proofs.Laws.Hypot.{hypot_comm, hypot_neg, inf_number, le_inf}
 use Rattle.arith.proofs.Laws.HypotReach.{leg_not_less, no_number_less}
 use Rattle.arith.proofs.Laws.Monotone.{sub_key_mono}
 use Rattle.arith.proofs.Laws.OrderHeld.{T→true, true→T, held_number, le_left, le_right}

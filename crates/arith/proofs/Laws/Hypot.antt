@@ -5,7 +5,6 @@ use lib.Ieee.{fin, fits, Float, Format, inf, is_nan, le, nan, neg}
 use lib.Ieee.Fits.{and_i, and_l, and_r, inf-fits, nan-fits}
 use lib.Ieee.Scale.{finite}
 use Rattle.arith.proofs.Laws.RootKey.{root_fits, root_ge, root_mono, root_number}
-use Rattle.arith.proofs.roots.Rounding.Fraction.{rounded}
 use Rattle.arith.proofs.roots.Rounding.Key.{finite_number, key, key_is, magnitude, mid, negative, number, finite_of}
 use Rattle.arith.proofs.roots.Rounding.Key.{representable_of, side, unit}
 use Rattle.arith.proofs.roots.Rounding.KeyOrder.{key→le, le→key}

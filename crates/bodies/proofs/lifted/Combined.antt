@@ -1,5 +1,5 @@
 -- A value made of another call's value is promised what follows from that call's promise, its acceptance and the making.
-use mathlib.Core.Path.{◌≡◌, ap, subst, sym, ◌∙◌}
+use mathlib.Core.Path.{ap, subst, sym, ◌∙◌}
 use Rattle.section.specs.profile.Replies.{Answers, OfValue, Reply, mapped, turned_down, value}
 
 module _ {A B : Type 0} (P N : A → Type 0) (Q R : B → Type 0) (f : A → B) (g : (a : A) → P a → N a → Q (f a) → R (f a)) where

@@ -8,7 +8,7 @@ use lib.Arith.{lt_of_le-ne}
 use lib.Dec.{T, T_not, eqb→eq}
 use lib.Ieee.{Float, binary64, eq, fits}
 use lib.Ieee.Fits.{eq→eqb}
-use Rattle.arith.specs.F64.{◌⊗◌, ◌⊘◌, ◌≺◌, ◌≼◌, 𝟘}
+use Rattle.arith.specs.F64.{◌⊗◌, ◌⊘◌, ◌≺◌, 𝟘}
 use Rattle.arith.specs.Num.{max}
 use Rattle.arith.specs.roots.Roots.{hypot}
 use Rattle.arith.proofs.roots.Rounding.KeyOrder.{eq_key, le→key, lt→key}

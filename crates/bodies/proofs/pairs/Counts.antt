@@ -14,7 +14,7 @@ use Rattle.walk.specs.settings.Settings.{finest}
 use Rattle.bodies.specs.Bodies.{body_distance, boxes_only}
 use Rattle.bodies.specs.declared.shapes.Body.{Body}
 use Rattle.bodies.specs.declared.shapes.Body.TheVariants.{Sphere, Box, Cylinder}
-use Rattle.bodies.specs.pairs.Pairs.{Won, won, nearer, PairPromised, PairConvexPromised}
+use Rattle.bodies.specs.pairs.Pairs.{won, nearer, PairPromised, PairConvexPromised}
 
 pub record Small (h : CountedHit) : Type 0 where
   pub boxes : h.boxes ≤ 8192

@@ -1,18 +1,16 @@
 -- A verdict that counts is the plain verdict, number for number; and where it judges, its counts are those of the query at the
 -- finest settings. By the definitions, and by the cover of the walk.
 use Prim.Native.Nat.{ℕ, zero, suc}
-use mathlib.Core.Bool.{Bool}
 use mathlib.Core.List.{List, [], ◌∷◌}
 use mathlib.Core.Path.{◌≡◌, refl}
 use lib.Ieee.{Float, fits, of_bits}
 use Rattle.section.specs.profile.Refusals.{refusal}
-use Rattle.section.specs.profile.Replies.{OfValue, Reply, mapped, reply}
+use Rattle.section.specs.profile.Replies.{OfValue, mapped, reply}
 use Rattle.section.proofs.profile.Replies.{of_reply}
 use Rattle.walk.specs.settings.Settings.{finest}
 use Rattle.walk.proofs.settings.Taken.{finest_taken, settings_taken}
 use Rattle.walk.specs.bands.Axis.{axis}
 use Rattle.walk.specs.declared.bands.shapes.Cylinder.{Cylinder}
-use Rattle.bodies.specs.Bodies.{body_distance, body_tests}
 use Rattle.bodies.specs.declared.shapes.Body.TheVariants.{Cylinder as Bar}
 use Rattle.walk.specs.cylinders.Cylinders.{cylinder_distance, cylinder_numbers, cylinder_tests}
 use Rattle.walk.specs.cylinders.Promised.{Few}

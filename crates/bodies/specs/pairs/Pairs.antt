@@ -1,6 +1,6 @@
 -- 02's chuck and work together: two sections and a body give the smaller distance; the first section wins an equal one. The
 -- winner's witness, counts and mark come with it, and its vertices are handed back.
-use Rattle.std.specs.Prelude.{Bool, true, false, cond, List, [], ◌++◌, Float}
+use Rattle.std.specs.Prelude.{Bool, true, false, cond, List, ◌++◌, Float}
 use Rattle.arith.specs.F64.{◌≺◌}
 use Rattle.section.specs.profile.Refusals.{Test, refusal, list_tests, axis_tests}
 use Rattle.section.specs.profile.Replies.{Reply, value, turned_down, reply}

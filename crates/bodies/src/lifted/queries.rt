@@ -3,7 +3,7 @@
 ghost use Rattle.section.specs.profile.Replies.{mapped, Answers};
 ghost use Rattle.section.specs.Answers as plain;
 ghost use Rattle.section.specs.Demand.{BoundedOffAxis};
-ghost use Rattle.walk.specs.settings.Settings as finest·settings;
+ghost use Rattle.walk.specs.settings.Settings as finest_settings;
 ghost use Rattle.walk.specs.cylinders.Cylinders as counted;
 ghost use Rattle.walk.specs.cylinders.Promised.{Promised};
 ghost use Rattle.bodies.specs.lifted.Answers.{told, told_counted, lifted_point, lifted_sphere, lifted_cylinder, lifted_hit};
@@ -68,7 +68,7 @@ pub fn lifted_sphere(section: &[f64], sphere: Sphere) -> Lifted
 pub fn lifted_cylinder(section: &[f64], cylinder: Cylinder) -> LiftedCounted
     ensures { let s = section.now in
         Answers (told_counted result) (lifted_cylinder s cylinder)
-        (WithPlaceCounted (Promised s cylinder finest·settings.finest) (middle_x cylinder) (middle_y cylinder)) }
+        (WithPlaceCounted (Promised s cylinder finest_settings.finest) (middle_x cylinder) (middle_y cylinder)) }
 {
     let a = cylinder.a;
     let b = cylinder.b;

@@ -1,7 +1,7 @@
 // Where a body stands at each step of a move.
 ghost use Rattle.std.specs.Prelude.{◌≡◌};
 ghost use Rattle.bodies.specs.moves.Placement as placement;
-ghost use Rattle.bodies.specs.declared.shapes.Body.TheVariants as body·kinds;
+ghost use Rattle.bodies.specs.declared.shapes.Body.TheVariants as body_kinds;
 
 use super::shapes::Travel;
 use crate::Body;
@@ -40,7 +40,7 @@ fn shifted(p: Vec3, offset: Vec3) -> Vec3
 }
 
 fn placed_sphere(b: Sphere, offset: Vec3) -> Body
-    ensures { result ≡ placement.placed (body·kinds.Sphere b) offset }
+    ensures { result ≡ placement.placed (body_kinds.Sphere b) offset }
 {
     let center = shifted(b.center, offset);
     Body::Sphere(Sphere {
@@ -51,7 +51,7 @@ fn placed_sphere(b: Sphere, offset: Vec3) -> Body
 
 // Its z bounds take z, its r bounds take x.
 fn placed_box(b: Aabb, offset: Vec3) -> Body
-    ensures { result ≡ placement.placed (body·kinds.Box b) offset }
+    ensures { result ≡ placement.placed (body_kinds.Box b) offset }
 {
     let x = offset.x;
     let z = offset.z;
@@ -64,7 +64,7 @@ fn placed_box(b: Aabb, offset: Vec3) -> Body
 }
 
 fn placed_cylinder(c: Cylinder, offset: Vec3) -> Body
-    ensures { result ≡ placement.placed (body·kinds.Cylinder c) offset }
+    ensures { result ≡ placement.placed (body_kinds.Cylinder c) offset }
 {
     let a = shifted(c.a, offset);
     let b = shifted(c.b, offset);

@@ -1,8 +1,8 @@
 // The queries of two sections. They ask nothing of the caller.
 ghost use Rattle.std.specs.Prelude.{[], ◌≡◌};
 ghost use Rattle.section.specs.profile.Replies.{Answers, value, mapped};
-ghost use Rattle.section.specs.Answers as section·answers;
-ghost use Rattle.walk.specs.cylinders.Cylinders as cylinders·answers;
+ghost use Rattle.section.specs.Answers as section_answers;
+ghost use Rattle.walk.specs.cylinders.Cylinders as cylinders_answers;
 ghost use Rattle.bodies.specs.Bodies.{boxes_only};
 ghost use Rattle.bodies.specs.pairs.Pairs.{told, nearer, pair_answer, pair_convex_answer, handed_back};
 ghost use Rattle.bodies.specs.pairs.Pairs.{PairPromised, PairConvexPromised};
@@ -26,7 +26,7 @@ fn nearer(chuck: CountedHit, work: CountedHit) -> PairAnswer
 
 // Of what the two sections give by themselves.
 fn nearer_of(chuck: CountedAnswer, work: CountedAnswer) -> PairAnswer
-    ensures { told result ≡ nearer_of (cylinders·answers.told chuck) (cylinders·answers.told work) }
+    ensures { told result ≡ nearer_of (cylinders_answers.told chuck) (cylinders_answers.told work) }
 {
     match chuck {
         CountedAnswer::Refused(n) => PairAnswer::Refused(n),
@@ -55,7 +55,7 @@ pub fn query_pair(chuck: &[f64], work: &[f64], body: Body) -> PairAnswer
 
 // A convex body counts no box.
 fn uncounted(answer: Answer) -> CountedAnswer
-    ensures { cylinders·answers.told result ≡ mapped (boxes_only 0) (section·answers.told answer) }
+    ensures { cylinders_answers.told result ≡ mapped (boxes_only 0) (section_answers.told answer) }
 {
     match answer {
         Answer::Refused(n) => CountedAnswer::Refused(n),

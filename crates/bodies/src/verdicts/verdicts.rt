@@ -1,7 +1,7 @@
 // The verdicts: collision exactly when the judged distance + 1e-9 < clearance.
 ghost use Rattle.std.specs.Prelude.{◌≡◌};
 ghost use Rattle.section.specs.profile.Replies.{value};
-ghost use Rattle.bodies.specs.declared.shapes.Body.TheVariants as body·kinds;
+ghost use Rattle.bodies.specs.declared.shapes.Body.TheVariants as body_kinds;
 ghost use Rattle.bodies.specs.verdicts.Verdicts.{told, collides, body_verdict, convex_verdict};
 
 use super::shapes::Verdict;
@@ -32,7 +32,7 @@ fn judged(distance: f64, clearance: f64) -> Verdict
 }
 
 pub fn verdict_sphere(section: &[f64], sphere: Sphere, clearance: f64) -> Verdict
-    ensures { told result ≡ body_verdict section.now (body·kinds.Sphere sphere) clearance }
+    ensures { told result ≡ body_verdict section.now (body_kinds.Sphere sphere) clearance }
 {
     let extra = [clearance];
     let number = sphere_refusal(section, sphere, &extra[..], 0);
@@ -43,7 +43,7 @@ pub fn verdict_sphere(section: &[f64], sphere: Sphere, clearance: f64) -> Verdic
 }
 
 pub fn verdict_box(section: &[f64], x: Aabb, clearance: f64) -> Verdict
-    ensures { told result ≡ body_verdict section.now (body·kinds.Box x) clearance }
+    ensures { told result ≡ body_verdict section.now (body_kinds.Box x) clearance }
 {
     let extra = [clearance];
     let number = box_refusal(section, x, &extra[..], 0);
@@ -54,7 +54,7 @@ pub fn verdict_box(section: &[f64], x: Aabb, clearance: f64) -> Verdict
 }
 
 pub fn verdict_cylinder(section: &[f64], cylinder: Cylinder, clearance: f64) -> Verdict
-    ensures { told result ≡ body_verdict section.now (body·kinds.Cylinder cylinder) clearance }
+    ensures { told result ≡ body_verdict section.now (body_kinds.Cylinder cylinder) clearance }
 {
     let extra = [clearance];
     let check = cylinder_check(section, cylinder, &extra[..], 0);

@@ -1,6 +1,6 @@
 // The listing of a store, and the line of a refusal.
 ghost use Rattle.std.specs.Prelude.{◌≤◌, length};
-ghost use Rattle.listings.specs.store_listing.Listing as listing·specs;
+ghost use Rattle.listings.specs.store_listing.Listing as listing_specs;
 ghost use Rattle.listings.specs.store_listing.Listing.{accepted_text, refusal_line, input_listing, StoreListed, Prints};
 ghost use Rattle.listings.specs.store_listing.Steps.{Written};
 
@@ -50,7 +50,7 @@ pub fn refusal_line(number: u32, k: u32, text: &mut [u8; 33]) -> usize
 
 // Puts what the listing program prints of a store: its listing, or the line of its refusal.
 fn put_listing(store: &[u8], text: &mut [u8; 28923]) -> usize
-    ensures { Prints (listing·specs.listing store.now) text.old text.new result }
+    ensures { Prints (listing_specs.listing store.now) text.old text.new result }
 {
     let answer = list_store(store, text);
     match answer {

@@ -4,7 +4,7 @@ ghost use Rattle.std.specs.Prelude.{◌≡◌, cond, [], ◌∷◌, ◌+◌, ◌
 ghost use Rattle.std.specs.Float.{binary64};
 ghost use Rattle.std.specs.Float.Ieee.{eq, to_bits};
 ghost use Rattle.arith.specs.F64.{𝟘};
-ghost use Rattle.listings.specs.store_listing.Text as text·specs;
+ghost use Rattle.listings.specs.store_listing.Text as text_specs;
 ghost use Rattle.listings.specs.store_listing.Steps.{Written};
 
 fn put_byte(text: &mut [u8], at: usize, x: u8) -> usize
@@ -30,7 +30,7 @@ pub fn put_word(text: &mut [u8], at: usize, word: &[u8]) -> usize
 // `0` to `9`, then `a` to `f`
 fn digit(d: u64) -> u8
     requires { d < 16 }
-    ensures { result ≡ text·specs.digit d }
+    ensures { result ≡ text_specs.digit d }
 {
     if d < 10 {
         return 48 + d as u8;
@@ -39,8 +39,8 @@ fn digit(d: u64) -> u8
 }
 
 pub fn put_decimal(text: &mut [u8], at: usize, n: u64) -> usize
-    requires { at + length (text·specs.decimal n) ≤ length text.old }
-    ensures { Written text.old at (text·specs.decimal n) text.new result }
+    requires { at + length (text_specs.decimal n) ≤ length text.old }
+    ensures { Written text.old at (text_specs.decimal n) text.new result }
 {
     if n < 10 {
         return put_byte(text, at, digit(n));
@@ -52,7 +52,7 @@ pub fn put_decimal(text: &mut [u8], at: usize, n: u64) -> usize
 // The last k hexadecimal digits of n.
 pub fn put_hex(text: &mut [u8], at: usize, n: u64, k: usize) -> usize
     requires { at + k ≤ length text.old }
-    ensures { Written text.old at (text·specs.hex k n) text.new result }
+    ensures { Written text.old at (text_specs.hex k n) text.new result }
 {
     if k == 0 {
         return at;
@@ -76,7 +76,7 @@ fn bits_of(x: f64) -> u64
 
 pub fn put_bits(text: &mut [u8], at: usize, x: f64) -> usize
     requires { at + 16 ≤ length text.old }
-    ensures { Written text.old at (text·specs.bits x) text.new result }
+    ensures { Written text.old at (text_specs.bits x) text.new result }
 {
     put_hex(text, at, bits_of(x), 16)
 }

@@ -2,10 +2,9 @@
 -- box's sides are hopeless. By the laws of ranges; where the box's sides lie, and the side that is meant, is put in for each
 -- of the four.
 use Prim.Native.Nat.{ℕ}
-use mathlib.Core.Bool.{Bool, true, false}
+use mathlib.Core.Bool.{false}
 use mathlib.Core.Path.{◌≡◌, subst, sym}
-use lib.Dec.{T}
-use lib.Ieee.{Float, binary64, fits}
+use lib.Ieee.{Float}
 use Rattle.arith.specs.F64.{◌≺◌}
 use Rattle.arith.proofs.Laws.OrderHeld.{inf_not_less}
 use Rattle.section.specs.profile.Vertices.{nearer, nearest_of, upto, vertex, vertex_at, end_at}

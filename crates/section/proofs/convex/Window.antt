@@ -4,7 +4,7 @@
 use Prim.Native.Nat.{ℕ, zero, suc, ◌+◌, ◌<◌, ◌≤◌}
 use native.Mathlib.Nat.{eq-or-lt_of_le, le_refl}
 use native.Mathlib.Omega.{arith}
-use mathlib.Core.Bool.{Bool, true, false, not}
+use mathlib.Core.Bool.{Bool, true, false}
 use mathlib.Core.List.{List}
 use mathlib.Core.Logic.{inl, inr}
 use mathlib.Core.Path.{◌≡◌, ap, refl, subst, sym, ◌∙◌}
@@ -12,7 +12,7 @@ use borrow.Author.Tests.{not-true}
 use lib.Dec.{T}
 use lib.Ieee.{Float, binary64, fits}
 use Rattle.arith.specs.F64.{◌≺◌, ∞}
-use Rattle.arith.proofs.Laws.OrderHeld.{T→true, true→T, inf_not_less, lt_trans_held, not_lt_trans_held, number_held}
+use Rattle.arith.proofs.Laws.OrderHeld.{T→true, true→T, inf_not_less, lt_trans_held, not_lt_trans_held}
 use Rattle.section.specs.profile.Vertices.{on, hit, count, vertex_at, end_at, edge_at, nearer, nearest_of, upto}
 use Rattle.section.specs.declared.profile.shapes.CollisionHit.{CollisionHit}
 use Rattle.section.proofs.profile.Numbers.{Held, NumberHit, infinite, nearest_number}

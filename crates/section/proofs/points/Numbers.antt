@@ -1,7 +1,7 @@
 -- No distance of a point is a NaN, whatever the numbers: the search starts with an infinity, and a NaN is never strictly smaller.
 use mathlib.Core.List.{List}
-use lib.Ieee.{Float, binary64, neg}
-use Rattle.arith.specs.F64.{◌≼◌, 𝟘, ∞, e_12}
+use lib.Ieee.{Float, binary64}
+use Rattle.arith.specs.F64.{◌≼◌, ∞, e_12}
 use Rattle.arith.specs.Num.{is_finite}
 use Rattle.arith.proofs.Laws.Extended.{neg_number}
 use Rattle.arith.proofs.Laws.Sizes.{Number, cond_keeps, zero_number}

@@ -1,19 +1,16 @@
 -- How far apart ranges lie is a lower bound of the legs between their points: where such legs are hopeless, an edge and a
 -- segment of these ranges are no nearer than the best. By the law of gaps, each range having the computed points of its
 -- segment.
-use Prim.Native.Nat.{◌≤◌}
 use native.Mathlib.Nat.{le_refl}
 use mathlib.Core.Bool.{Bool, true, false, not, cond}
-use mathlib.Core.Path.{◌≡◌, ap, refl, subst, sym, ◌∙◌}
-use borrow.Author.Tests.{le-ltb}
+use mathlib.Core.Path.{◌≡◌, refl, subst, sym}
 use lib.Dec.{T}
 use lib.Ieee.{Float, nan, inf, fin, binary64, fits, is_nan, lt}
 use lib.Ieee.Fits.{add-fits, sub-fits}
-use Rattle.arith.specs.roots.Roots.{hypot}
 use Rattle.arith.proofs.roots.Rounding.Key.{key, number}
 use Rattle.arith.proofs.roots.Rounding.KeyOrder.{key→le}
-use Rattle.arith.specs.F64.{◌⊕◌, ◌⊖◌, ◌⊗◌, ◌≺◌, ◌≼◌, 𝟘, 𝟙}
-use Rattle.arith.proofs.Laws.Along.{Share, no_number, share}
+use Rattle.arith.specs.F64.{◌⊕◌, ◌⊖◌, ◌⊗◌, ◌≺◌, ◌≼◌, 𝟘}
+use Rattle.arith.proofs.Laws.Along.{Share}
 use Rattle.arith.proofs.Laws.Gap.{gap_above, gap_below}
 use Rattle.arith.proofs.Laws.OrderHeld.{T→true, held_number, not_less_nan, number_held}
 use Rattle.arith.proofs.Laws.Sizes.{zero_number}

@@ -7,8 +7,7 @@ use mathlib.Core.Bool.{false, true}
 use mathlib.Core.List.{List}
 use mathlib.Core.Logic.{inl, inr}
 use mathlib.Core.Path.{◌≡◌, subst, sym}
-use lib.Dec.{T}
-use lib.Ieee.{Float, binary64, fits, neg}
+use lib.Ieee.{Float, binary64, neg}
 use lib.Ieee.Fits.{add-fits}
 use Rattle.arith.specs.F64.{◌⊕◌, ◌⊖◌, ◌⊗◌, ∞}
 use Rattle.arith.proofs.Laws.Along.{Share}
@@ -16,8 +15,8 @@ use Rattle.arith.proofs.Laws.Hypot.{inf_number}
 use Rattle.arith.proofs.Laws.OrderHeld.{true→T}
 use Rattle.section.specs.profile.Vertices.{count, end_at, upto, vertex_at}
 use Rattle.section.specs.declared.profile.shapes.Vertex.{Vertex}
-use Rattle.section.specs.ranges.Hull.{Hull, VertexHeld, hull_of, nowhere, wider}
-use Rattle.section.specs.ranges.Ranges.{range, range_of, ranges_of}
+use Rattle.section.specs.ranges.Hull.{Hull, VertexHeld, hull_of, wider}
+use Rattle.section.specs.ranges.Ranges.{range, ranges_of}
 use Rattle.section.specs.declared.ranges.shapes.Sides.{Sides}
 use Rattle.section.proofs.ranges.Ranges.{Ended, Holds, held_first, held_second, joined_ended, range_ended, range_holds}
 

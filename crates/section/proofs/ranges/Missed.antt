@@ -1,6 +1,6 @@
 -- A side of a box that alone leaves nothing of a segment leaves nothing of it after the other sides, so that the clip is none. By
 -- the order alone: what the other sides leave lies from 0 to 1, and the quotient lies outside.
-use mathlib.Core.Bool.{Bool, true, false, not, cond, ◌||◌}
+use mathlib.Core.Bool.{Bool, true, false, cond, ◌||◌}
 use mathlib.Core.Path.{◌≡◌, refl, sym, ap, subst, ◌∙◌}
 use lib.Dec.{T}
 use lib.Ieee.{Float, nan, inf, fin, binary64, fits, is_nan, lt, neg, of_bits}

@@ -1,6 +1,6 @@
 -- A segment's range holds its computed points, and joined ranges hold what each holds. By the law that such a point lies between
 -- the segment's computed ends; a NaN is held by every range.
-use Prim.Native.Nat.{ℕ, ◌≤◌, ◌<◌}
+use Prim.Native.Nat.{◌≤◌}
 use native.Mathlib.Nat.{le_of_eq, le_of_lt, le_refl, le_trans}
 use native.Mathlib.Omega.{arith}
 use mathlib.Core.Bool.{Bool, true, false, not, cond}
@@ -14,7 +14,7 @@ use Rattle.arith.proofs.roots.Rounding.Key.{finite_inside, finite_number, key, m
 use Rattle.arith.proofs.roots.Rounding.KeyOrder.{lt_key, lt→key, nlt→key}
 use Rattle.arith.proofs.roots.Rounding.Sum.{add_number, sub_number}
 use Rattle.arith.specs.F64.{◌⊕◌, ◌⊖◌, ◌⊗◌, ◌≺◌, ◌≼◌, 𝟘, ∞}
-use Rattle.arith.specs.Num.{is_finite, max, min}
+use Rattle.arith.specs.Num.{is_finite}
 use Rattle.arith.proofs.Laws.Along.{Share, no_step, point_not_above, point_not_below, step_down, step_up}
 use Rattle.arith.proofs.Laws.Hypot.{inf_number}
 use Rattle.arith.proofs.Laws.OrderHeld.{true→T, inf_not_less, not_less_minus_inf, not_less_nan, not_lt_trans_held, number_held}

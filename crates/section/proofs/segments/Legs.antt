@@ -1,19 +1,19 @@
 -- Legs that are long enough have no hypot below a number: one of them reaches it, both reach those of another hypot, or their
 -- squares exceed its square. By hypot's growth with the size of each leg; a NaN is below nothing.
-use Prim.Native.Nat.{ℕ, ◌+◌, ◌-◌, ◌≤◌, ◌<◌}
+use Prim.Native.Nat.{ℕ, ◌+◌, ◌≤◌}
 use native.Mathlib.Nat.{le_of_eq, le_of_lt, le_refl, le_trans}
 use native.Mathlib.Omega.{arith}
 use mathlib.Core.Bool.{Bool, true, false, not, cond}
 use mathlib.Core.Path.{◌≡◌, ap, refl, subst, sym, ◌∙◌}
 use lib.Dec.{T}
 use lib.Ieee.{Float, nan, inf, fin, binary64, fits, is_nan, le, lt, mul, add, neg, of_bits}
-use lib.Ieee.Fits.{neg-fits, nan-fits}
+use lib.Ieee.Fits.{neg-fits}
 use Rattle.arith.specs.roots.Roots.{hypot}
 use Rattle.arith.proofs.roots.Rounding.Key.{key, key_is, magnitude, magnitude_le, mid, negative, number, side}
 use borrow.Author.Tests.{le-ltb}
 use Rattle.arith.proofs.roots.Rounding.KeyOrder.{key→le, le→key, lt_key, lt→key, nlt→key}
 use Rattle.arith.proofs.roots.Rounding.Sum.{neg_key}
-use Rattle.arith.specs.F64.{◌⊕◌, ◌⊗◌, ◌≺◌, ◌≼◌, 𝟘, ∞}
+use Rattle.arith.specs.F64.{◌≺◌, ◌≼◌, 𝟘, ∞}
 use Rattle.arith.specs.Num.{abs}
 use Rattle.arith.proofs.Laws.Along.{add_nan}
 use Rattle.arith.proofs.Laws.Extended.{neg_number}

@@ -1,6 +1,6 @@
 -- Where the computed points of a segment lie along one axis, and those of a box's four sides; and when one side of a box alone
 -- leaves nothing of a segment. Only what functions below the entry points promise each other: no answer is defined by it.
-use Rattle.std.specs.Prelude.{Bool, true, false, cond, ◌||◌, ◌≡◌, T, Float}
+use Rattle.std.specs.Prelude.{Bool, false, cond, ◌||◌, ◌≡◌, T, Float}
 use Rattle.std.specs.Float.{binary64}
 use Rattle.std.specs.Float.Ieee.{fits, neg}
 use Rattle.arith.specs.F64.{◌⊕◌, ◌⊖◌, ◌⊗◌, ◌⊘◌, ◌≺◌, ◌≼◌, 𝟘, 𝟙, ∞, e_15, e_18}

@@ -1,5 +1,5 @@
 -- 01's clip (Liang-Barsky).
-use Rattle.std.specs.Prelude.{Bool, true, false, not, cond, Float}
+use Rattle.std.specs.Prelude.{true, false, not, cond, Float}
 use Rattle.std.specs.Float.Ieee.{neg}
 use Rattle.arith.specs.F64.{◌⊖◌, ◌⊘◌, ◌≺◌, ◌≼◌, 𝟘, 𝟙, e_15, e_18}
 use Rattle.arith.specs.Num.{abs}

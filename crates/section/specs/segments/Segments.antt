@@ -51,13 +51,13 @@ closest_places a b c e f =
     let den = a ⊗ e ⊖ b ⊗ b in
     let s = cond (e_18 ≺ abs den) (unit_clamp ((b ⊗ f ⊖ c ⊗ e) ⊘ den)) 𝟘 in
     let t = (b ⊗ s ⊕ f) ⊘ e in
-    let atFirstEnd = places (unit_clamp (neg c ⊘ a)) 𝟘 in
-    let atLastEnd = places (unit_clamp ((b ⊖ c) ⊘ a)) 𝟙 in
+    let at_first_end = places (unit_clamp (neg c ⊘ a)) 𝟘 in
+    let at_last_end = places (unit_clamp ((b ⊖ c) ⊘ a)) 𝟙 in
     cond (a ≼ e_24)
     (cond (e ≼ e_24) (places 𝟘 𝟘) (places 𝟘 (unit_clamp (f ⊘ e))))
-    (cond (e ≼ e_24) atFirstEnd
-    (cond (t ≺ 𝟘) atFirstEnd
-    (cond (𝟙 ≺ t) atLastEnd (places s t))))
+    (cond (e ≼ e_24) at_first_end
+    (cond (t ≺ 𝟘) at_first_end
+    (cond (𝟙 ≺ t) at_last_end (places s t))))
 
 -- 01's two segments: the point on the first, which is always the section's edge, is the witness
 unfoldable pub segments : Edge → Vertex → Vertex → CollisionHit

@@ -1,27 +1,25 @@
 -- An add: the chain is the old one with the new record behind it, and the section the old one with the new record's
 -- vertex behind it, if it is one. Idea: only the last record's next changes among the chained ones.
 use Prim.Native.Nat.{ℕ, suc, ◌+◌, ◌*◌, ◌/◌, ◌%◌, ◌<◌, ◌≤◌}
-use native.Mathlib.Nat.{suc-add, zero-add}
 use native.Mathlib.Omega.{arith}
 use mathlib.Core.Bool.{Bool, true, false, cond}
 use mathlib.Core.List.{List, [], ◌∷◌, ◌++◌}
 use mathlib.Core.Logic.{◌⊎◌, inl, inr}
-use mathlib.Core.Path.{◌≡◌, refl, sym, ap, subst, ◌∙◌}
+use mathlib.Core.Path.{◌≡◌, refl, sym, ap, ◌∙◌}
 use lib.ListN.{length, take, length-take}
-use lib.Dec.{ltb, leb}
+use lib.Dec.{ltb}
 use borrow.Author.Tests.{ltb-true, ltb-false}
-use Rattle.store.specs.Records.{records, next, kind}
+use Rattle.store.specs.Records.{records, next}
 use Rattle.store.specs.Chain.{whole, chain, follow, member}
 use Rattle.store.specs.Store.{chained, vertex_numbers, vertices}
 use Rattle.store.proofs.Ending.{counted_enough}
 use Rattle.store.specs.edits.Written.{free_record, last_record, ending, appended, length_then}
 use Rattle.store.specs.declared.edits.shapes.Place.TheVariants.{Add}
-use Rattle.store.proofs.edits.Fields.{SameFrom, same_next, same_kind}
+use Rattle.store.proofs.edits.Fields.{SameFrom, same_next}
 use Rattle.store.proofs.edits.Members.{not_both}
 use Rattle.store.proofs.edits.Placing.{same_then, same_back, same_later, in_front, ending_next, ending_rest}
 use Rattle.store.proofs.edits.Placing.{appended_size, appended_other, appended_old, appended_link, appended_new}
 use Rattle.store.proofs.edits.Sections.{same_vertex, same_vertices, vertices_more}
-use Rattle.store.proofs.edits.Whole.{Whole, last}
 use Rattle.store.proofs.edits.Growing.{chain_grown}
 use Rattle.store.proofs.edits.Free.{free_bound, free_unreached}
 use Rattle.store.proofs.edits.Good.{Good, count, room, within, chained_whole}

@@ -3,7 +3,7 @@ use Prim.Native.Nat.{ℕ}
 use native.Mathlib.Omega.{arith}
 use mathlib.Core.Bool.{Bool, true, false, cond}
 use mathlib.Core.List.{List}
-use mathlib.Core.Path.{◌≡◌, refl, sym, ap, subst, ◌∙◌}
+use mathlib.Core.Path.{◌≡◌, refl, sym, ap, subst}
 use lib.ListN.{take}
 use Rattle.section.specs.profile.Refusals.{refusal}
 use Rattle.section.specs.profile.Replies.{Reply, value, turned_down}
@@ -12,7 +12,7 @@ use Rattle.store.specs.declared.answers.StoreAnswer.{StoreAnswer}
 use Rattle.store.specs.declared.answers.StoreAnswer.TheVariants.{Accepted, Refused}
 use Rattle.store.specs.edits.Written.{written, length_then}
 use Rattle.store.specs.edits.Edits.{space_answer, not_there, not_allowed, no_room, unless, edit_answer, kept, space_after}
-use Rattle.store.specs.edits.Series.{Space, store, answer, kept_length, edited}
+use Rattle.store.specs.edits.Series.{Space, answer, kept_length, edited}
 use Rattle.store.specs.declared.edits.shapes.Role.{Role}
 use Rattle.store.specs.declared.edits.shapes.Place.{Place}
 use Rattle.store.specs.declared.edits.shapes.Edit.{Edit}

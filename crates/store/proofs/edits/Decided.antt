@@ -1,28 +1,27 @@
 -- What the checks decide, one law for each return of the editing functions.
 use Prim.Native.Nat.{ℕ, ◌+◌, ◌-◌, ◌*◌, ◌/◌, ◌<◌, ◌≤◌}
 use native.Mathlib.Omega.{arith}
-use mathlib.Core.Bool.{Bool, true, false, not, cond}
+use mathlib.Core.Bool.{true, false, not, cond}
 use mathlib.Core.List.{List, [], ◌∷◌}
 use mathlib.Core.Path.{◌≡◌, refl, sym, ap, subst, ◌∙◌}
 use lib.ListN.{length, take, get_or, length-take}
 use lib.Seq.{sets, get_or-take}
-use lib.Dec.{ltb, leb}
+use lib.Dec.{ltb}
 use borrow.Author.Tests.{le-leb, lt-leb}
 use Rattle.section.specs.profile.Refusals.{refusal, any_of}
 use Rattle.section.specs.profile.Replies.{Reply, value, turned_down}
-use Rattle.store.specs.Records.{records}
 use Rattle.store.specs.Chain.{member}
 use Rattle.store.specs.Store.{chained}
 use Rattle.store.specs.declared.answers.StoreAnswer.TheVariants.{Accepted, Refused}
 use Rattle.store.specs.edits.Written.{lowest_from, free_record, last_record, appended, written, length_then}
-use Rattle.store.specs.edits.Edits.{space_answer, not_there, not_allowed, no_room, unless, told, kept, edit_answer, space_after, Edited}
+use Rattle.store.specs.edits.Edits.{space_answer, not_there, not_allowed, no_room, unless, kept, edit_answer, space_after, Edited}
 use Rattle.store.specs.edits.Steps.{Small, Tried}
 use Rattle.store.specs.declared.edits.shapes.Role.{Role}
 use Rattle.store.specs.declared.edits.shapes.Place.{Place}
 use Rattle.store.specs.declared.edits.shapes.Place.TheVariants.{Record, Add}
 use Rattle.store.specs.declared.edits.shapes.EditAnswer.{EditAnswer}
 use Rattle.store.specs.declared.edits.shapes.EditAnswer.TheVariants.{Refused as Turned}
-use Rattle.store.proofs.edits.Good.{Good, good, count, room, within}
+use Rattle.store.proofs.edits.Good.{good, count, room, within}
 
 module _ (s : List ℕ) (n : ℕ) (role : Role) (place : Place) (bytes : List ℕ) where
   turned : {i : ℕ} → edit_answer s n role place bytes ≡ turned_down i → Edited s n role place bytes (Turned i) s

@@ -1,16 +1,13 @@
 -- A run of bytes put into a list is read back where it was put, and every other byte is as before; so a field reads as
 -- its own bytes do. Idea: element by element, then number by number.
-use Prim.Native.Nat.{ℕ, zero, suc, ◌+◌, ◌*◌, ◌/◌, ◌%◌, ◌<◌, ◌≤◌}
+use Prim.Native.Nat.{ℕ, zero, suc, ◌+◌, ◌*◌, ◌<◌, ◌≤◌}
 use native.Mathlib.Nat.{add-zero, zero-add, add_assoc}
 use native.Mathlib.Omega.{arith}
-use mathlib.Core.Bool.{Bool, true, false}
 use mathlib.Core.List.{List, [], ◌∷◌}
 use mathlib.Core.Path.{◌≡◌, refl, sym, ap, ◌∙◌}
-use lib.ListN.{length, get_or, take, set, length-set}
-use lib.Seq.{sets, get_or-set_same, get_or-set_other, get_or-take}
-use lib.Dec.{ltb}
-use lib.Ieee.{Float, binary64, of_bits}
-use borrow.Author.Tests.{ltb-true, ltb-false}
+use lib.ListN.{length, get_or, set, length-set}
+use lib.Seq.{sets, get_or-set_same, get_or-set_other}
+use lib.Ieee.{binary64, of_bits}
 use Rattle.store.specs.Bytes.{little_endian}
 use Rattle.store.specs.Records.{next, kind, number}
 use Rattle.store.specs.edits.Written.{next_bytes}

@@ -1,12 +1,11 @@
 -- Where an add goes: the record is the lowest that the chain does not hold. Idea: the search's own recursion.
 use Prim.Native.Nat.{ℕ, zero, suc, ◌+◌, ◌<◌, ◌≤◌}
-use native.Mathlib.Nat.{add-zero}
 use native.Mathlib.Omega.{arith}
 use mathlib.Core.Bool.{Bool, true, false, cond}
 use mathlib.Core.List.{List}
-use mathlib.Core.Path.{◌≡◌, refl, sym, ap, subst, ◌∙◌}
-use lib.Dec.{eqb, leb}
-use borrow.Author.Tests.{eqb-true, eqb-false, leb-true, leb-false}
+use mathlib.Core.Path.{◌≡◌, refl, subst}
+use lib.Dec.{eqb}
+use borrow.Author.Tests.{eqb-true, eqb-false}
 use lib.Arith.{lt_of_le-ne}
 use Rattle.store.specs.Records.{records}
 use Rattle.store.specs.Chain.{member}

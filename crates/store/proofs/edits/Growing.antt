@@ -1,16 +1,14 @@
 -- How the chain follows the next fields: where those of its records stay, it stays; where only the last one's next comes
 -- to lead to an unreached record whose next is 0, it is the old chain with that record behind it. Idea: both chains are
 -- walked together.
-use Prim.Native.Nat.{ℕ, zero, suc, ◌+◌, ◌<◌, ◌≤◌}
+use Prim.Native.Nat.{ℕ, suc, ◌<◌, ◌≤◌}
 use native.Mathlib.Omega.{arith}
-use mathlib.Core.Bool.{Bool, true, false, ◌||◌, cond}
+use mathlib.Core.Bool.{true, false}
 use mathlib.Core.List.{List, [], ◌∷◌, ◌++◌}
-use mathlib.Core.Path.{◌≡◌, refl, sym, ap, ◌∙◌}
-use lib.ListN.{length, get_or}
-use lib.Dec.{eqb, leb}
+use mathlib.Core.Path.{◌≡◌, sym, ap, ◌∙◌}
 use borrow.Author.Tests.{ne_eqb, lt-leb}
 use Rattle.store.specs.Records.{records, next}
-use Rattle.store.specs.Chain.{Chain, whole, broken, member, follow, chain}
+use Rattle.store.specs.Chain.{whole, member, follow, chain}
 use Rattle.store.proofs.edits.Members.{not_both, member_new, last_of_more}
 use Rattle.store.proofs.edits.Walking.{Ended, walked}
 use Rattle.store.proofs.edits.Whole.{last, Whole, follow_holds}

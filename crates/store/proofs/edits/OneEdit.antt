@@ -2,11 +2,11 @@
 -- and its record. Idea: an edit that passed its checks, by its place.
 use Prim.Native.Nat.{ℕ, ◌<◌}
 use native.Mathlib.Omega.{arith}
-use mathlib.Core.Bool.{Bool, true, false, not, ◌||◌, cond}
+use mathlib.Core.Bool.{Bool, true, false, not, ◌||◌}
 use mathlib.Core.List.{List, [], ◌∷◌, ◌++◌, append-nil}
-use mathlib.Core.Path.{◌≡◌, refl, sym, ap, subst, ◌∙◌}
+use mathlib.Core.Path.{◌≡◌, refl, sym, subst, ◌∙◌}
 use lib.ListN.{length, take}
-use lib.Dec.{eqb, leb}
+use lib.Dec.{eqb}
 use borrow.Author.Tests.{eqb-true, not-false, leb-false}
 use Rattle.section.specs.profile.Replies.{value}
 use Rattle.store.specs.Records.{next}
@@ -15,7 +15,7 @@ use Rattle.store.specs.Kinds.{is_vertex}
 use Rattle.store.specs.Store.{chained, vertices}
 use Rattle.store.specs.declared.answers.StoreAnswer.TheVariants.{Accepted}
 use Rattle.store.specs.edits.Written.{free_record, ending, written, length_then}
-use Rattle.store.specs.edits.Edits.{space_answer, not_there, not_allowed, no_room}
+use Rattle.store.specs.edits.Edits.{not_there, not_allowed, no_room}
 use Rattle.store.specs.edits.Series.{Space, store, verdict, section, answer, edited, Forty, NoRepeats}
 use Rattle.store.specs.declared.edits.shapes.Role.{Role}
 use Rattle.store.specs.declared.edits.shapes.Role.TheVariants.{Operator}
@@ -23,7 +23,7 @@ use Rattle.store.specs.declared.edits.shapes.Place.{Place}
 use Rattle.store.specs.declared.edits.shapes.Place.TheVariants.{Record, Add}
 use Rattle.store.specs.declared.edits.shapes.Edit.{Edit}
 use Rattle.store.proofs.edits.Fields.{SameFrom}
-use Rattle.store.proofs.edits.Good.{Good, good}
+use Rattle.store.proofs.edits.Good.{good}
 use Rattle.store.proofs.edits.Answered.{Passed, passed, by_answer, carried_out_lem}
 use Rattle.store.proofs.edits.Replaced.{replaced_record, replaced_section}
 use Rattle.store.proofs.edits.Added.{added_record, added_chain, added_section}

@@ -1,12 +1,12 @@
 -- Records of a list into which a record, or a next field, was put: the one put there reads as new, all others as before.
 -- Idea: two records have no byte in common.
-use Prim.Native.Nat.{ℕ, zero, suc, ◌+◌, ◌-◌, ◌*◌, ◌<◌, ◌≤◌}
+use Prim.Native.Nat.{ℕ, ◌+◌, ◌-◌, ◌*◌, ◌<◌, ◌≤◌}
 use native.Mathlib.Nat.{zero-add}
 use native.Mathlib.Omega.{arith}
 use mathlib.Core.Bool.{Bool, true, false}
-use mathlib.Core.List.{List, [], ◌∷◌, ◌++◌}
-use mathlib.Core.Path.{◌≡◌, refl, sym, ap, ◌∙◌}
-use lib.ListN.{length, get_or, take, drop, length-drop, length-append}
+use mathlib.Core.List.{List}
+use mathlib.Core.Path.{◌≡◌, refl, sym, ◌∙◌}
+use lib.ListN.{length, get_or, take, drop, length-drop}
 use lib.Seq.{sets, get_or-take, get_or-drop, get_or-append-add, length-sets}
 use lib.Arith.{lt_of_le-ne}
 use lib.Dec.{ltb}
@@ -14,7 +14,7 @@ use borrow.Author.Tests.{ltb-true, ltb-false}
 use Rattle.store.specs.Bytes.{little_endian}
 use Rattle.store.specs.Records.{next}
 use Rattle.store.specs.edits.Written.{next_bytes, ending, appended}
-use Rattle.store.proofs.edits.Fields.{SameFrom, sets_before, sets_behind, sets_inside, same_next, next_read}
+use Rattle.store.proofs.edits.Fields.{SameFrom, sets_before, sets_behind, sets_inside, next_read}
 
 pub same_then :
     {f : ℕ} {a b c : List ℕ} {j k l : ℕ} → SameFrom f a j b k → SameFrom f b k c l → SameFrom f a j c l

@@ -2,15 +2,15 @@
 -- chained record keeps its next and its vertex, the replaced one having none.
 use Prim.Native.Nat.{ℕ, ◌+◌, ◌*◌, ◌/◌, ◌≤◌}
 use native.Mathlib.Omega.{arith}
-use mathlib.Core.Bool.{Bool, true, false, not, ◌||◌, cond}
+use mathlib.Core.Bool.{Bool, true, false}
 use mathlib.Core.List.{List}
-use mathlib.Core.Path.{◌≡◌, refl, sym, ap, ◌∙◌}
+use mathlib.Core.Path.{◌≡◌, refl, ap, ◌∙◌}
 use lib.ListN.{length, take, length-take}
 use lib.Seq.{sets, length-sets}
 use lib.Dec.{eqb}
-use borrow.Author.Tests.{eqb-true, eqb-false, not-false}
-use Rattle.store.specs.Records.{records, next, kind}
-use Rattle.store.specs.Chain.{whole, chain, member}
+use borrow.Author.Tests.{eqb-true, eqb-false}
+use Rattle.store.specs.Records.{next}
+use Rattle.store.specs.Chain.{member}
 use Rattle.store.specs.Kinds.{is_vertex}
 use Rattle.store.specs.Store.{chained, vertex_numbers, vertices}
 use Rattle.store.proofs.edits.Fields.{SameFrom, same_next, same_kind}

@@ -1,7 +1,7 @@
 -- The promises over every list of edits: an accepted store stays accepted, its chain is whole and meets no record twice, operator
 -- edits leave the section as it was, refused edits are no edits, and no other byte changes. Edit by edit.
 use Prim.Native.Nat.{ℕ}
-use mathlib.Core.Bool.{Bool, true, false, ◌||◌}
+use mathlib.Core.Bool.{false}
 use mathlib.Core.List.{List, [], ◌∷◌}
 use mathlib.Core.Path.{◌≡◌, refl, sym, ap, ◌∙◌}
 use lib.ListN.{length, get_or}

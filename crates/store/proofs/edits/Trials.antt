@@ -9,7 +9,6 @@ use lib.ListN.{length, take, get_or, set, length-set, replicate}
 use lib.Seq.{sets, sets-eq, drop-length, take_all, take-suc, take-suc-set, length-take-le}
 use Rattle.store.specs.Chain.{chain}
 use Rattle.store.specs.Store.{and_then, length_answer, links_answer}
-use Rattle.store.specs.declared.answers.StoreAnswer.{StoreAnswer}
 use Rattle.store.specs.declared.answers.StoreAnswer.TheVariants.{Accepted, Refused}
 use Rattle.store.proofs.Lists.{take_more}
 use Rattle.store.proofs.Reading.{refused_first}
@@ -19,7 +18,7 @@ use Rattle.store.specs.edits.Steps.{Put, Tried}
 use Rattle.store.specs.declared.edits.shapes.EditAnswer.{EditAnswer}
 use Rattle.store.specs.declared.edits.shapes.EditAnswer.TheVariants.{Length, Refused as Turned}
 use Rattle.store.proofs.edits.Placing.{ending_size, ending_rest}
-use Rattle.store.proofs.edits.Good.{Good, good}
+use Rattle.store.proofs.edits.Good.{good}
 
 never : {n k : ℕ} → Refused n k ≡ Accepted → ⊥
 never e = let z : ◌≡◌ {A = ℕ} 0 1 = cc in omega arith

@@ -4,11 +4,11 @@ use Prim.Native.Nat.{ℕ, zero, suc, ◌<◌}
 use native.Mathlib.Omega.{arith}
 use mathlib.Core.Bool.{Bool, true, false, ◌||◌, cond}
 use mathlib.Core.List.{List, [], ◌∷◌, ◌++◌}
-use mathlib.Core.Path.{◌≡◌, refl, sym}
+use mathlib.Core.Path.{◌≡◌, refl}
 use lib.Dec.{eqb, leb}
 use borrow.Author.Tests.{eqb-true, eqb-false, leb-false}
 use Rattle.store.specs.Records.{records, next}
-use Rattle.store.specs.Chain.{Chain, whole, broken, member, follow}
+use Rattle.store.specs.Chain.{whole, broken, member, follow}
 
 -- where the walk ends: at record k, with `passed` behind it, which together are ks
 pub record Ended (b ks : List ℕ) (P : ℕ → List ℕ → ℕ → Type 0) : Type 0 where

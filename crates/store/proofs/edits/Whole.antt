@@ -1,18 +1,16 @@
 -- A whole chain: it holds record 0, all it holds are records of the store, none twice, and its last one's next is 0. Idea:
 -- each of these holds at record 0 and goes on with every step.
-use Prim.Native.Nat.{ℕ, zero, suc, ◌+◌, ◌-◌, ◌<◌, ◌≤◌}
+use Prim.Native.Nat.{ℕ, ◌-◌, ◌<◌, ◌≤◌}
 use native.Mathlib.Omega.{arith}
-use mathlib.Core.Bool.{Bool, true, false, ◌||◌, cond}
+use mathlib.Core.Bool.{true, false}
 use mathlib.Core.List.{List, [], ◌∷◌, ◌++◌}
-use mathlib.Core.Path.{◌≡◌, refl, sym, ap, ◌∙◌}
+use mathlib.Core.Path.{◌≡◌, refl}
 use lib.ListN.{length, get_or}
-use lib.Dec.{eqb, leb}
-use borrow.Author.Tests.{eq-eqb, ne_eqb, lt-leb}
 use Rattle.section.specs.profile.Refusals.{any_of}
 use Rattle.store.specs.Records.{records, next}
-use Rattle.store.specs.Chain.{Chain, whole, broken, member, follow, chain}
+use Rattle.store.specs.Chain.{whole, member, follow, chain}
 use Rattle.store.specs.edits.Series.{NoRepeats}
-use Rattle.store.proofs.edits.Members.{get_d_member, member_more, member_new, member_cases, last_of_more, no_repeats_more}
+use Rattle.store.proofs.edits.Members.{member_more, member_new, member_cases, last_of_more, no_repeats_more}
 use Rattle.store.proofs.edits.Walking.{Ended, walked}
 
 abbrev pub last : List ℕ → ℕ

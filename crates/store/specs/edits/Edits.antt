@@ -14,7 +14,6 @@ use Rattle.store.specs.declared.edits.shapes.Role.{Role}
 use Rattle.store.specs.declared.edits.shapes.Role.TheVariants.{Setter, Operator}
 use Rattle.store.specs.declared.edits.shapes.Place.{Place}
 use Rattle.store.specs.declared.edits.shapes.Place.TheVariants.{Record, Add}
-use Rattle.store.specs.declared.edits.shapes.Edit.{Edit}
 use Rattle.store.specs.declared.edits.shapes.EditAnswer.{EditAnswer}
 use Rattle.store.specs.declared.edits.shapes.EditAnswer.TheVariants.{Length, Refused as Turned}
 

@@ -1,6 +1,6 @@
 // The section: its vertices, gathered from the chained records.
 ghost use Rattle.std.specs.Prelude.{◌≡◌, [], ◌∷◌, ◌<◌, ◌^◌, length};
-ghost use Rattle.store.specs.Store as store·specs;
+ghost use Rattle.store.specs.Store as store_specs;
 ghost use Rattle.store.specs.Store.{vertex_numbers};
 ghost use Rattle.store.specs.Steps.{SectionRoom, Adds, Gathers};
 
@@ -25,7 +25,7 @@ fn add_vertex(store: &[u8], k: u32, space: &mut [f64], n: usize) -> usize
 // How many vertices there are; 256 at most are put into the space.
 pub fn gather(store: &[u8], order: &[u32], space: &mut [f64]) -> usize
     requires { SectionRoom order.now space.old }
-    ensures { Gathers (store·specs.vertices store.now order.now) space.new result }
+    ensures { Gathers (store_specs.vertices store.now order.now) space.new result }
 {
     let mut n = 0;
     let mut i = 0;

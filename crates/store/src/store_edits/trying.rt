@@ -1,7 +1,7 @@
 // An edit is carried out on a copy of the space, which is judged, and replaces the space if it is accepted.
 ghost use Rattle.std.specs.Prelude.{◌≡◌, cond, ◌+◌, ◌*◌, ◌/◌, ◌<◌, ◌≤◌, length, ltb};
 ghost use Rattle.std.proofs.lemmas.List.Edits.{sets};
-ghost use Rattle.store.specs.edits.Written as edits·specs;
+ghost use Rattle.store.specs.edits.Written as edits_specs;
 ghost use Rattle.store.specs.edits.Written.{appended};
 ghost use Rattle.store.specs.edits.Steps.{Tried};
 
@@ -38,7 +38,7 @@ pub fn try_replace(space: &mut [u8], size: usize, k: u32, bytes: &[u8]) -> EditA
 // The 40 bytes with next 0, whatever next they have.
 fn ending(bytes: &[u8]) -> [u8; 40]
     requires { length bytes.now ≡ 40 }
-    ensures { result ≡ edits·specs.ending bytes.now }
+    ensures { result ≡ edits_specs.ending bytes.now }
 {
     let mut new = [0u8; 40];
     let mut i = 4;

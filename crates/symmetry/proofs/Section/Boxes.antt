@@ -7,7 +7,7 @@ use mathlib.Core.Path.{ap, refl, ◌≡◌}
 use lib.Ieee.{binary64, Float, neg}
 use Rattle.arith.specs.F64.{◌⊘◌, ◌≺◌, ◌≼◌, 𝟘, 𝟙, ½, e_9, e_12, e_15, e_18}
 use Rattle.arith.specs.Num.{abs}
-use Rattle.section.specs.profile.Vertices.{any, count, edge_at, end_at, next, vertex_at}
+use Rattle.section.specs.profile.Vertices.{count, edge_at, end_at, next, vertex_at}
 use Rattle.section.specs.declared.profile.shapes.Aabb.{Aabb}
 use Rattle.section.specs.declared.profile.shapes.Vertex.{Vertex}
 use Rattle.section.specs.declared.profile.shapes.Edge.{Edge}

@@ -2,11 +2,10 @@
 -- lies at Q, and the code took the place T / U of the edge, U = S + T. Whatever T is, the loss to any other place is at most |B -
 -- A|; where |B - A| is larger than ε, the residual of the quotient is known to be small, and then the edge's point at T / U
 -- itself lies within ε of the side's line, or T is the end that is nearest.
-use Prim.Native.Nat.{◌*◌, ◌+◌, ◌-◌, ◌<◌, ℕ, ◌≤◌, zero}
+use Prim.Native.Nat.{◌*◌, ◌+◌, ◌<◌, ℕ, ◌≤◌}
 use mathlib.Core.Logic.{inl, inr, ◌⊎◌}
-use mathlib.Core.Path.{◌≡◌, ap, refl, sym, ◌∙◌}
-use native.Mathlib.Nat.{le_of_eq, le_of_lt, le_of_mul-le-mul_left, le_trans, mul-le-mul, mul-le-mul_left, mul-le-mul_right}
-use native.Mathlib.Nat.{mul-pos}
+use mathlib.Core.Path.{◌≡◌, ap}
+use native.Mathlib.Nat.{le_of_eq, le_of_lt, le_trans, mul-le-mul_left, mul-le-mul_right}
 use native.Mathlib.Omega.{arith}
 use Rattle.arith.proofs.roots.Numbers.{decide}
 use Rattle.arith.specs.Whole.{apart}

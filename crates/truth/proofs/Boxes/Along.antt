@@ -1,15 +1,14 @@
 -- THE PLACE t ALONG A SIDE, in whole numbers as in Chain: t is (b s + f) / e, s being T / U. Along the side the two points then
 -- lie 51 u apart at most; and where b s + f is not positive, or not below e, the edge's point lies before the side's first
 -- corner, or after its last, but for as much.
-use Prim.Native.Nat.{◌*◌, ◌+◌, ◌-◌, ◌<◌, ℕ, ◌≤◌}
-use mathlib.Core.Logic.{inl, inr, ◌⊎◌}
-use mathlib.Core.Path.{◌≡◌, ap, refl, sym}
-use native.Mathlib.Nat.{le_of_eq, le_of_mul-le-mul_left, le_refl, le_trans, mul-le-mul, mul-le-mul_left, mul-le-mul_right}
+use Prim.Native.Nat.{◌*◌, ◌+◌, ◌<◌, ℕ, ◌≤◌}
+use mathlib.Core.Path.{◌≡◌, ap, sym}
+use native.Mathlib.Nat.{le_of_eq, le_of_mul-le-mul_left, le_trans, mul-le-mul_left, mul-le-mul_right}
 use native.Mathlib.Omega.{arith}
 use Rattle.arith.proofs.Laws.RoundingError.{Close}
 use Rattle.arith.proofs.Laws.OperationErrors.{cancel}
 use Rattle.truth.proofs.Boxes.Chain.{Small, Square, Times}
-use Rattle.truth.proofs.Boxes.Signed.{Near, near_add, near_mul, near_size, Product, refit, Sum, wider}
+use Rattle.truth.proofs.Boxes.Signed.{Near, near_add, near_mul, near_size, Product, Sum, wider}
 
 -- ---- the sums, each product a number of its own
 beyond_core : (K x y w v_p v_n : ℕ) → 0 < K → y + v_n ≤ v_p + 31 * w → K * x ≤ K * y + 4 * x → x ≤ 4 * (K * w) → x + v_n ≤ v_p + 51 * w

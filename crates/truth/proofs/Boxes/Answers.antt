@@ -1,6 +1,6 @@
 -- WHAT THE BOX QUERY ANSWERS IS TRUE OF THE SECTION'S EDGES: of every section and every box that is not turned down, at both
 -- reaches. And of a sound section it is true of the solid, by no more.
-use Prim.Native.Nat.{◌+◌, ◌<◌, ℕ}
+use Prim.Native.Nat.{◌<◌, ℕ}
 use mathlib.Core.Bool.{◌||◌, Bool, false, not, true}
 use mathlib.Core.List.{◌++◌, ◌∷◌, [], List}
 use mathlib.Core.Path.{◌≡◌}

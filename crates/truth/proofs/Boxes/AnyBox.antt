@@ -4,17 +4,15 @@
 -- not thin.
 use Prim.Native.Nat.{◌*◌, ◌+◌, ◌-◌, ◌<◌, ◌^◌, ℕ, ◌≤◌}
 use mathlib.Core.Logic.{inl, inr, ◌⊎◌}
-use mathlib.Core.Path.{◌≡◌, ap, refl, sym}
+use mathlib.Core.Path.{◌≡◌, refl}
 use native.Mathlib.Nat.{le_of_eq, le_of_lt, le_refl, le_trans, mul-le-mul, mul-le-mul_left, mul-le-mul_right}
 use native.Mathlib.Omega.{arith}
 use lib.Dec.{leb→le}
-use lib.Ieee.{binary64, prec}
 use Rattle.arith.proofs.roots.Numbers.{decide}
 use Rattle.arith.proofs.Laws.Sizes.{K, M}
 use Rattle.section.specs.profile.Vertices.{vertex_at}
 use Rattle.section.specs.declared.profile.shapes.Aabb.{Aabb}
 use Rattle.section.specs.declared.profile.shapes.Edge.{Edge}
-use Rattle.section.specs.declared.profile.shapes.Vertex.{Vertex}
 use Rattle.section.specs.boxes.Boxes.{corners, edge_box}
 use Rattle.arith.specs.Whole.{apart}
 use Rattle.truth.specs.Exact.{sqd}

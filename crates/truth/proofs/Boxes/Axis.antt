@@ -29,7 +29,6 @@ use Rattle.truth.proofs.Boxes.Along.{meets, not_above, not_below}
 use Rattle.truth.proofs.Boxes.Chain.{Dot, dot, Length, Small, square, Square, Times, times, Way}
 use Rattle.truth.proofs.Boxes.Floats.{H, length_of, no_length, no_product, product_of, quotient_before}
 use Rattle.truth.proofs.Boxes.Floats.{quotient_beyond, quotient_inside, sum_of, U, way_of, zero_product}
-use Rattle.truth.proofs.Boxes.Points.{reported}
 use Rattle.truth.proofs.Boxes.Signed.{Product, Sum}
 use Rattle.truth.proofs.Boxes.Taken.{clamped, Good, place_good}
 use Rattle.truth.proofs.Boxes.Turns.{Between, from_first, from_last, product_swap, side_by_side}

@@ -5,7 +5,7 @@
 use Prim.Native.Nat.{◌*◌, ◌+◌, ◌-◌, ◌<◌, ℕ, ◌≤◌}
 use mathlib.Core.Logic.{inl, inr, ◌⊎◌}
 use mathlib.Core.Path.{◌≡◌, ap, refl, sym, ◌∙◌}
-use native.Mathlib.Nat.{le_of_eq, le_of_lt, le_of_mul-le-mul_left, le_trans, mul-le-mul, mul-le-mul_left, mul-le-mul_right}
+use native.Mathlib.Nat.{le_of_eq, le_of_lt, le_of_mul-le-mul_left, le_trans, mul-le-mul, mul-le-mul_left}
 use native.Mathlib.Nat.{mul-pos}
 use native.Mathlib.Omega.{arith}
 use Rattle.arith.proofs.roots.Numbers.{decide}
@@ -13,7 +13,7 @@ use Rattle.arith.specs.Whole.{apart}
 use Rattle.truth.specs.Exact.{sqd}
 use Rattle.arith.proofs.Laws.RoundingError.{Close}
 use Rattle.truth.proofs.Points.Foot.{sqd_farther, sqd_farther_down}
-use Rattle.truth.proofs.Points.Lagrange.{sqd_comm, sqd_is, sqd_scale}
+use Rattle.truth.proofs.Points.Lagrange.{sqd_comm, sqd_scale}
 use Rattle.arith.proofs.Laws.OperationErrors.{apart_most, apart_over, apart_under}
 use Rattle.truth.proofs.Boxes.Across.{Best}
 

@@ -1,12 +1,11 @@
 -- NUMERATOR AND DENOMINATOR of the place s, for a side parallel to an axis, in whole numbers. M is the key of zero, U that of one
 -- less M, 2 K u bounds the coordinates, u is half a last place of a number twice as large. h is the side's length: every error of
 -- what is multiplied by it is a share of it, however short it is. A value is a difference P - N (Signed).
-use Prim.Native.Nat.{◌*◌, ◌+◌, ◌-◌, ◌<◌, ℕ, ◌≤◌}
+use Prim.Native.Nat.{◌*◌, ◌+◌, ◌<◌, ℕ, ◌≤◌}
 use mathlib.Core.Logic.{inl, inr, ◌⊎◌}
-use mathlib.Core.Path.{◌≡◌, ap, refl}
-use native.Mathlib.Nat.{le_of_eq, le_refl, le_trans, mul-le-mul, mul-le-mul_left, mul-le-mul_right}
+use mathlib.Core.Path.{◌≡◌}
+use native.Mathlib.Nat.{le_refl, le_trans, mul-le-mul_left, mul-le-mul_right}
 use native.Mathlib.Omega.{arith}
-use Rattle.arith.specs.Whole.{apart}
 use Rattle.arith.proofs.Laws.RoundingError.{Close}
 use Rattle.truth.proofs.Boxes.Signed.{Difference, Near, near_add, near_mul, near_size, near_sub, Product, reduce, refit}
 use Rattle.truth.proofs.Boxes.Signed.{sized_product, Sum, wider}

@@ -1,9 +1,9 @@
 -- AN EDGE WITH BOTH ENDS INSIDE THE BOX IS CLIPPED WHOLE, because rounding is monotone: no side's quotient lies strictly between
 -- 0 and 1.
 use Prim.Native.Nat.{◌*◌, ◌+◌, ◌-◌, ◌<◌, ◌^◌, min, ℕ, ◌≤◌}
-use mathlib.Core.Bool.{false, not, true}
-use mathlib.Core.Path.{◌≡◌, ap, refl, sym, ◌∙◌}
-use native.Mathlib.Nat.{le_of_eq, le_refl, le_trans, lt_of_le_of_lt, lt_of_lt_of_le, mul-le-mul_right, not-le_of_lt, one-mul}
+use mathlib.Core.Bool.{false, not}
+use mathlib.Core.Path.{◌≡◌, refl, sym, ◌∙◌}
+use native.Mathlib.Nat.{le_of_eq, le_refl, le_trans, lt_of_lt_of_le, mul-le-mul_right, not-le_of_lt, one-mul}
 use native.Mathlib.Omega.{arith}
 use lib.Dec.{leb→le, T}
 use lib.Pow.{pow_pos}
@@ -20,7 +20,7 @@ use Rattle.arith.specs.Num.{abs}
 use Rattle.arith.proofs.Laws.Bounded.{one_lt}
 use Rattle.arith.proofs.Laws.Monotone.{sub_key_mono}
 use Rattle.arith.proofs.Laws.Quotients.{abs_not_e_18, above, AwayFrom0, below}
-use Rattle.arith.proofs.Laws.Sizes.{Finite, finite_number_lem, K, M, neg_finite, one_finite, sub_finite, zero_finite, zero_key}
+use Rattle.arith.proofs.Laws.Sizes.{Finite, finite_number_lem, K, M, neg_finite, one_finite, sub_finite, zero_key}
 use Rattle.arith.proofs.Laws.Sizes.{zero_number}
 use Rattle.section.proofs.profile.Steps.{pick}
 use Rattle.section.specs.declared.profile.shapes.Aabb.{Aabb}

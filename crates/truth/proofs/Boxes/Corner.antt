@@ -2,14 +2,13 @@
 -- it, the corner's distance to the edge. The edge runs from A to B, the corner lies at q, in one coordinate; small letters in the
 -- other. One that runs downwards is turned: then q takes the place of A and A that of q.
 use Prim.Native.Nat.{◌*◌, ◌+◌, ◌-◌, ◌<◌, ℕ, ◌≤◌}
-use mathlib.Core.Logic.{inl, inr, ◌⊎◌}
 use mathlib.Core.Path.{◌≡◌, ap, ap₂, refl, sym, ◌∙◌}
 use native.Mathlib.Nat.{le_of_eq, le_trans, mul-le-mul}
 use native.Mathlib.Omega.{arith}
 use Rattle.arith.specs.Whole.{apart}
 use Rattle.truth.specs.Exact.{sqd}
 use Rattle.truth.proofs.Points.Foot.{Loss, nearly}
-use Rattle.truth.proofs.Points.Lagrange.{apart², apart_split}
+use Rattle.truth.proofs.Points.Lagrange.{apart²}
 use Rattle.arith.proofs.Laws.OperationErrors.{RootClose}
 use Rattle.truth.proofs.Points.Reported.{never_more}
 use Rattle.truth.proofs.Boxes.Beside.{FromCorner}

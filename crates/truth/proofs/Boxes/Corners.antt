@@ -3,8 +3,8 @@
 use Prim.Native.Nat.{◌*◌, ◌+◌, ◌-◌, ◌<◌, ◌^◌, suc, ℕ, ◌≤◌}
 use mathlib.Core.Bool.{not}
 use mathlib.Core.Logic.{inl, inr, ◌⊎◌}
-use mathlib.Core.Path.{◌≡◌, ap, refl, sym, ◌∙◌}
-use native.Mathlib.Nat.{le_of_eq, le_of_lt, le_trans, mul-le-mul, mul-le-mul_left, mul-le-mul_right}
+use mathlib.Core.Path.{◌≡◌, ap, refl}
+use native.Mathlib.Nat.{le_of_eq, le_trans, mul-le-mul, mul-le-mul_left, mul-le-mul_right}
 use native.Mathlib.Omega.{arith}
 use lib.Dec.{leb→le, T}
 use lib.Ieee.{binary64, Float, neg, of_bits, prec}
@@ -24,10 +24,10 @@ use Rattle.section.specs.segments.Segments.{along, dot, minus, places, unit_clam
 use Rattle.arith.specs.Whole.{apart}
 use Rattle.truth.proofs.Points.Closest.{Within}
 use Rattle.truth.proofs.Points.Foot.{Loss}
-use Rattle.truth.proofs.Points.Coordinate.{power, power_1, power_4, sized}
+use Rattle.truth.proofs.Points.Coordinate.{power, power_4, sized}
 use Rattle.arith.proofs.Laws.RoundingError.{Close}
 use Rattle.truth.proofs.Points.Lagrange.{apart_split}
-use Rattle.arith.proofs.Laws.OperationErrors.{apart_most, apart_over, apart_under, half, hypot_close, RootClose, sub_close}
+use Rattle.arith.proofs.Laws.OperationErrors.{apart_most, apart_over, apart_under, half, hypot_close, RootClose}
 use Rattle.truth.proofs.Boxes.Lengths.{Slim}
 use Rattle.truth.proofs.Boxes.Beside.{FromCorner}
 use Rattle.truth.proofs.Boxes.Corner.{from_corner, Upright, upright_down, upright_up}
@@ -36,7 +36,7 @@ use Rattle.truth.proofs.Boxes.Nearest.{Nearest, nearest}
 use Rattle.truth.proofs.Boxes.Points.{gap, gap_size, leg, point, Point}
 use Rattle.truth.proofs.Boxes.Relative.{Dotted, dotted, dotted_less, Reach, Span}
 use Rattle.section.specs.declared.segments.shapes.Places.{Places}
-use Rattle.truth.proofs.Boxes.Signed.{Near, wider}
+use Rattle.truth.proofs.Boxes.Signed.{Near}
 use Rattle.truth.proofs.Boxes.Taken.{one_key}
 
 -- what was reported for two places

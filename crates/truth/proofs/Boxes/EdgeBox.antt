@@ -10,8 +10,8 @@ use lib.Dec.{leb→le, T, T_not}
 use lib.Ieee.{binary64, Float, prec}
 use Rattle.arith.proofs.roots.Rounding.Key.{number}
 use Rattle.arith.proofs.roots.Rounding.KeyOrder.{lt→key, nlt→key}
-use Rattle.arith.specs.F64.{◌≺◌, ◌≼◌, 𝟘, ∞, e_24}
-use Rattle.arith.proofs.Laws.Bounded.{Bounded, bounded_up}
+use Rattle.arith.specs.F64.{◌≺◌, 𝟘, ∞}
+use Rattle.arith.proofs.Laws.Bounded.{bounded_up}
 use Rattle.arith.proofs.Laws.BoundedValue.{bounded→value}
 use Rattle.arith.proofs.Laws.Hypot.{inf_number}
 use Rattle.arith.proofs.Laws.Sizes.{Finite, finite_number_lem, K, M, zero_key}
@@ -22,7 +22,7 @@ use Rattle.section.specs.declared.profile.shapes.CollisionHit.{CollisionHit}
 use Rattle.section.specs.declared.profile.shapes.Edge.{Edge}
 use Rattle.section.specs.declared.profile.shapes.Vertex.{Vertex}
 use Rattle.section.specs.segments.Clip.{clip}
-use Rattle.section.specs.segments.Segments.{dot, minus, segments}
+use Rattle.section.specs.segments.Segments.{segments}
 use Rattle.section.specs.declared.segments.shapes.Clip.{Clip}
 use Rattle.section.specs.boxes.Boxes.{corners, edge_box}
 use Rattle.section.specs.Demand.{AtMost}
@@ -31,14 +31,13 @@ use Rattle.section.proofs.Demand.Clip.{edge_box_at_most}
 use Rattle.section.proofs.Demand.Hits.{BoxAtMost, corners_at_most, EdgeAtMost, end_at_at_most, vertex_at_at_most, VertexAtMost}
 use Rattle.section.proofs.Demand.Segments.{segments_at_most}
 use Rattle.arith.specs.Whole.{apart}
-use Rattle.truth.specs.Exact.{sqd}
 use Rattle.truth.proofs.Points.Closest.{Within}
 use Rattle.truth.proofs.Points.Distance.{or_last}
 use Rattle.truth.proofs.Boxes.Lengths.{Coarse, Coordinate}
-use Rattle.truth.proofs.Boxes.Clipped.{clip_whole, Inside, Sized}
+use Rattle.truth.proofs.Boxes.Clipped.{clip_whole, Sized}
 use Rattle.truth.proofs.Boxes.Corner.{apart_comm}
 use Rattle.truth.proofs.Boxes.Floats.{H}
-use Rattle.truth.proofs.Boxes.Outline.{Around, every_point, Far, OnEdge}
+use Rattle.truth.proofs.Boxes.Outline.{every_point, Far, OnEdge}
 use Rattle.truth.proofs.Boxes.Segments.{segments_r, segments_z}
 use Rattle.truth.proofs.Boxes.Sides.{Clear}
 use Rattle.truth.proofs.Boxes.Turns.{Between}

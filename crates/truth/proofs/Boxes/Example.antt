@@ -2,7 +2,7 @@
 -- box lies nearer to a point of an edge than 5 mm less 2 ^ -11 mm.
 use Prim.Native.Nat.{◌*◌, ◌+◌, ◌-◌, ◌<◌, ◌^◌, suc, zero, ℕ, ◌≤◌}
 use mathlib.Core.List.{List, [], ◌∷◌}
-use mathlib.Core.Path.{◌≡◌, ap, refl, subst}
+use mathlib.Core.Path.{◌≡◌, refl, subst}
 use native.Mathlib.Omega.{arith}
 use lib.Dec.{leb→le}
 use lib.Ieee.{add, binary64, div, fits, Float, le, lt, mul, neg, of_bits, sub}
@@ -19,8 +19,7 @@ use Rattle.section.specs.boxes.Boxes.{aabb, box_distance, box_gap, box_holds, bo
 use Rattle.section.specs.boxes.Boxes.{strictly_inside_aabb}
 use Rattle.truth.specs.Exact.{origin, place, sqd, units}
 use Rattle.truth.specs.Boxes.{InBox, OnEdges}
-use Rattle.truth.proofs.Boxes.Lengths.{Coordinate}
-use Rattle.truth.proofs.Boxes.Sections.{box_metre, NeverOver, Placed, Vertices}
+use Rattle.truth.proofs.Boxes.Sections.{box_metre, Placed, Vertices}
 
 abbrev ten : Float
 ten = of_bits binary64 0x4024000000000000

@@ -2,9 +2,9 @@
 use Prim.Native.Nat.{◌*◌, ◌+◌, ◌-◌, ◌<◌, ◌^◌, suc, ℕ, ◌≤◌}
 use mathlib.Core.Bool.{false}
 use mathlib.Core.Logic.{inl, inr, ◌⊎◌}
-use mathlib.Core.Path.{◌≡◌, ap, refl, sym, ◌∙◌}
-use native.Mathlib.Nat.{le_antisymm, le_of_eq, le_of_lt, le_of_mul-le-mul_left, le_refl, le_trans, mul-pos, mul-le-mul}
-use native.Mathlib.Nat.{mul-le-mul_left, mul-le-mul_right, one-mul}
+use mathlib.Core.Path.{◌≡◌, ap, refl, sym}
+use native.Mathlib.Nat.{le_antisymm, le_of_eq, le_of_mul-le-mul_left, le_refl, le_trans, mul-pos, mul-le-mul}
+use native.Mathlib.Nat.{mul-le-mul_right, one-mul}
 use native.Mathlib.Omega.{arith}
 use lib.Dec.{leb→le, lit<, T}
 use lib.Ieee.{binary64, div, Float, Format, low, prec}
@@ -14,7 +14,7 @@ use Rattle.arith.proofs.roots.Rounding.Product.{negative_part, positive_part}
 use Rattle.arith.proofs.roots.Rounding.Quotient.{div_key}
 use Rattle.arith.proofs.roots.Rounding.RoundKey.{round_key, round_key_mono, round_key_side}
 use Rattle.arith.specs.F64.{◌⊕◌, ◌⊖◌, ◌⊗◌, ◌⊘◌}
-use Rattle.arith.proofs.Laws.Bounded.{mid_lt, one_lt}
+use Rattle.arith.proofs.Laws.Bounded.{one_lt}
 use Rattle.arith.proofs.Laws.Bounds.{round_key_within}
 use Rattle.arith.proofs.Laws.Sizes.{Finite, K, M}
 use Rattle.arith.specs.Whole.{apart}

@@ -1,10 +1,10 @@
 -- 01'S BOX DISTANCE from its edges' distances: the gap is the least of them, and the result is the gap or at most 0. So what
 -- exceeds the exact distance to no edge by more than η holds of the box distance: the field never-over of specs/Cylinders'
 -- BoxTrue, of the points of edges.
-use Prim.Native.Nat.{◌*◌, ◌+◌, ◌-◌, ◌<◌, zero-le, ℕ, ◌≤◌}
+use Prim.Native.Nat.{◌*◌, ◌+◌, ◌-◌, ◌<◌, ℕ, ◌≤◌}
 use mathlib.Core.Bool.{Bool, false, true}
 use mathlib.Core.List.{List}
-use mathlib.Core.Path.{◌≡◌, sym}
+use mathlib.Core.Path.{◌≡◌}
 use native.Mathlib.Nat.{le_of_eq, le_trans}
 use native.Mathlib.Omega.{arith}
 use lib.Dec.{leb→le, T}
@@ -16,10 +16,9 @@ use Rattle.arith.proofs.Laws.Sizes.{K, M, zero_key}
 use Rattle.section.proofs.profile.Steps.{pick}
 use Rattle.section.specs.profile.Vertices.{count, edge_at, end_at, hit, on, vertex_at}
 use Rattle.section.specs.declared.profile.shapes.Aabb.{Aabb}
-use Rattle.section.specs.declared.profile.shapes.CollisionHit.{CollisionHit}
 use Rattle.section.specs.points.Overlap.{result_of}
 use Rattle.section.specs.boxes.Boxes.{box_distance, box_gap, box_holds, box_penetration, edge_box}
-use Rattle.truth.specs.Exact.{origin, place, sqd, units}
+use Rattle.truth.specs.Exact.{sqd, units}
 use Rattle.truth.specs.Boxes.{InBox, OnEdges}
 use Rattle.truth.proofs.Places.{origin_is, place_is}
 use Rattle.truth.proofs.Points.Lagrange.{sqd_comm}

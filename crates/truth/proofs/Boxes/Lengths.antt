@@ -1,13 +1,12 @@
 -- WHAT IS ASKED of a scale, of a side's length, and of an edge and a side: their coordinates, and Ericson's dot products of them.
 use Prim.Native.Nat.{◌*◌, ◌+◌, ◌-◌, ◌<◌, ◌^◌, suc, ℕ, ◌≤◌}
-use mathlib.Core.Bool.{not}
 use mathlib.Core.Path.{◌≡◌}
 use lib.Ieee.{binary64, Float, prec}
 use Rattle.arith.specs.F64.{◌⊖◌, ◌⊗◌, e_18, e_24}
 use Rattle.arith.proofs.Laws.Bounded.{Bounded}
 use Rattle.arith.proofs.Laws.Sizes.{Finite, K, M}
 use Rattle.arith.specs.Whole.{apart}
-use Rattle.truth.proofs.Boxes.Chain.{dot, Small}
+use Rattle.truth.proofs.Boxes.Chain.{Small}
 use Rattle.truth.proofs.Boxes.Floats.{H}
 use Rattle.truth.proofs.Boxes.Floats.{U}
 use Rattle.truth.proofs.Boxes.Signed.{Sum}

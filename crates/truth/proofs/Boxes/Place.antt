@@ -1,11 +1,10 @@
 -- THE PLACE s, from its numerator and denominator: v is K u u, a share of it bounds what each may miss by. Where the denominator
 -- is positive the quotient's residual is at most 1024 v for each U; where it is not, or no larger than the threshold, the edge is
 -- flat across the side.
-use Prim.Native.Nat.{◌*◌, ◌+◌, ◌-◌, ◌<◌, ℕ, ◌≤◌}
+use Prim.Native.Nat.{◌*◌, ◌+◌, ◌<◌, ℕ, ◌≤◌}
 use mathlib.Core.Logic.{inl, inr, ◌⊎◌}
 use mathlib.Core.Path.{◌≡◌, ap, refl}
-use native.Mathlib.Nat.{le_of_eq, le_of_mul-le-mul_left, le_refl, le_trans, mul-le-mul, mul-le-mul_left, mul-le-mul_right}
-use native.Mathlib.Nat.{mul-pos}
+use native.Mathlib.Nat.{le_of_mul-le-mul_left, le_trans, mul-le-mul_left, mul-le-mul_right}
 use native.Mathlib.Omega.{arith}
 use Rattle.arith.specs.Whole.{apart}
 use Rattle.arith.proofs.Laws.RoundingError.{Close}

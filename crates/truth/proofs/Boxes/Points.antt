@@ -2,13 +2,12 @@
 -- each coordinate, the difference of two of them 25 u.
 use Prim.Native.Nat.{◌*◌, ◌+◌, ◌-◌, ◌<◌, ℕ, ◌≤◌}
 use mathlib.Core.Logic.{inl, inr, ◌⊎◌}
-use mathlib.Core.Path.{◌≡◌, ap, refl, sym}
-use native.Mathlib.Nat.{le_of_mul-le-mul_left, le_trans, mul-le-mul, mul-le-mul_left, mul-le-mul_right}
+use mathlib.Core.Path.{◌≡◌, ap}
+use native.Mathlib.Nat.{le_of_mul-le-mul_left, le_trans, mul-le-mul_left, mul-le-mul_right}
 use native.Mathlib.Omega.{arith}
 use Rattle.arith.specs.Whole.{apart}
 use Rattle.arith.proofs.Laws.RoundingError.{Close}
 use Rattle.truth.proofs.Points.Lagrange.{apart_split}
-use Rattle.arith.proofs.Laws.OperationErrors.{apart_over, apart_under}
 use Rattle.truth.proofs.Boxes.Beside.{legs}
 use Rattle.truth.proofs.Boxes.Chain.{Small, Way}
 use Rattle.truth.proofs.Boxes.Signed.{Difference, Near, near_add, near_mul, near_size, near_sub, Product, Sum, wider}

@@ -1,15 +1,13 @@
 -- THE SCALES: coordinates within 1,024 mm and sides of at least 2 ^ -17 mm, and 01's limit, 1,048,576 mm, and sides of at least 2
 -- ^ -27 mm. ε is 2 ^ -22 times the bound.
-use Prim.Native.Nat.{◌*◌, ◌+◌, ◌-◌, ◌<◌, ◌^◌, ℕ, ◌≤◌}
-use native.Mathlib.Nat.{le_of_eq, le_trans, lt_of_lt_of_le, mul-le-mul, mul-le-mul_left}
-use native.Mathlib.Omega.{arith}
+use Prim.Native.Nat.{◌*◌, ◌^◌, ℕ, ◌≤◌}
+use native.Mathlib.Nat.{le_trans, lt_of_lt_of_le, mul-le-mul, mul-le-mul_left}
 use lib.Dec.{leb→le}
-use lib.Ieee.{binary64, of_bits}
+use lib.Ieee.{of_bits}
 use Rattle.arith.proofs.roots.Rounding.Key.{key, magnitude, mid, unit}
 use Rattle.arith.proofs.Laws.OperationErrors.{half}
 use Rattle.truth.proofs.Boxes.Lengths.{Coarse, Scale, Slim}
-use Rattle.truth.proofs.Boxes.Chain.{Small}
-use Rattle.truth.proofs.Boxes.Floats.{H, U}
+use Rattle.truth.proofs.Boxes.Floats.{H}
 
 -- a longer side
 pub slim_longer : (e g h : ℕ) → g ≤ h → Slim e g → Slim e h

@@ -3,7 +3,6 @@
 -- a walk, which reach four times as far, it is what specs/Boxes' BoxTrue asks.
 use Prim.Native.Nat.{◌*◌, ◌+◌, ◌-◌, ◌<◌, ◌^◌, ℕ, ◌≤◌}
 use mathlib.Core.List.{List}
-use native.Mathlib.Nat.{le_trans, mul-le-mul, mul-le-mul_left}
 use native.Mathlib.Omega.{arith}
 use lib.Dec.{leb→le}
 use lib.Ieee.{binary64, Float, prec}
@@ -11,7 +10,6 @@ use Rattle.arith.proofs.Laws.Bounded.{bounded_up}
 use Rattle.arith.proofs.Laws.Sizes.{K}
 use Rattle.section.specs.profile.Vertices.{count, edge_at, end_at, next, vertex_at}
 use Rattle.section.specs.declared.profile.shapes.Aabb.{Aabb}
-use Rattle.section.specs.declared.profile.shapes.Vertex.{Vertex}
 use Rattle.section.specs.boxes.Boxes.{box_distance}
 use Rattle.section.proofs.Demand.Hits.{next_below}
 use Rattle.truth.specs.Exact.{units}

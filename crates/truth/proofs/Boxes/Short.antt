@@ -3,7 +3,7 @@
 use Prim.Native.Nat.{◌*◌, ◌+◌, ◌-◌, ◌<◌, ◌^◌, ℕ, ◌≤◌}
 use mathlib.Core.Logic.{inl, inr, ◌⊎◌}
 use mathlib.Core.Path.{◌≡◌, ap, refl, ◌∙◌}
-use native.Mathlib.Nat.{le_of_eq, le_of_lt, le_trans, mul-le-mul, mul-le-mul_left, mul-le-mul_right, mul-pos}
+use native.Mathlib.Nat.{le_of_lt, le_trans, mul-le-mul, mul-le-mul_left, mul-le-mul_right, mul-pos}
 use native.Mathlib.Omega.{arith}
 use lib.Dec.{T}
 use lib.Ieee.{binary64, Float}
@@ -23,7 +23,6 @@ use Rattle.truth.proofs.Points.Closest.{Within}
 use Rattle.truth.proofs.Points.Lagrange.{apart_split, sqd_comm, sqd_is}
 use Rattle.truth.proofs.Points.Reported.{never_more_short}
 use Rattle.arith.proofs.Laws.OperationErrors.{apart_over, apart_under, RootClose}
-use Rattle.truth.proofs.Boxes.Across.{Best}
 use Rattle.truth.proofs.Boxes.Lengths.{Slim}
 use Rattle.truth.proofs.Boxes.Beside.{FromCorner, root_le}
 use Rattle.truth.proofs.Boxes.Corners.{distance_at, dots, dots_finite, root, stands, way_leg, wr, wz}

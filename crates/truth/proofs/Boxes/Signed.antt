@@ -1,9 +1,9 @@
 -- ERRORS OF PRODUCTS, in whole numbers without signs: a value is the difference of two numbers, its key k and M, the key of zero,
 -- and c times it is known to be P - N but for E: k c + N and M c + P are at most E apart.
-use Prim.Native.Nat.{◌*◌, ◌+◌, ◌-◌, ◌<◌, ℕ, ◌≤◌}
+use Prim.Native.Nat.{◌*◌, ◌+◌, ◌<◌, ℕ, ◌≤◌}
 use mathlib.Core.Logic.{inl, inr, ◌⊎◌}
 use mathlib.Core.Path.{◌≡◌, ap}
-use native.Mathlib.Nat.{le_of_eq, le_trans, mul-le-mul, mul-le-mul_left, mul-le-mul_right}
+use native.Mathlib.Nat.{le_of_eq, le_trans, mul-le-mul, mul-le-mul_right}
 use native.Mathlib.Omega.{arith}
 use Rattle.arith.specs.Whole.{apart}
 use Rattle.arith.proofs.Laws.RoundingError.{Close}

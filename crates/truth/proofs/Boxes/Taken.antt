@@ -1,22 +1,21 @@
 -- THE PLACE s THAT THE CODE TAKES is, across the side, no farther than any other place of the edge but for ε, 1024 K u u of which
 -- are its square: M · 2 ^ -22.
-use Prim.Native.Nat.{◌*◌, ◌+◌, ◌-◌, ◌<◌, ◌^◌, suc, ℕ, ◌≤◌}
+use Prim.Native.Nat.{◌*◌, ◌+◌, ◌-◌, ◌<◌, ◌^◌, ℕ, ◌≤◌}
 use mathlib.Core.Bool.{Bool, cond, false, not, true}
 use mathlib.Core.Logic.{inl, inr, ◌⊎◌}
-use mathlib.Core.Path.{◌≡◌, ap, refl, sym, subst, ◌∙◌}
-use native.Mathlib.Nat.{le_of_eq, le_of_lt, le_refl, le_trans, mul-pos}
+use mathlib.Core.Path.{◌≡◌, refl}
+use native.Mathlib.Nat.{le_of_lt, le_trans, mul-pos}
 use native.Mathlib.Omega.{arith}
-use lib.Dec.{leb→le, T}
+use lib.Dec.{T}
 use lib.Ieee.{binary64, Float, neg, of_bits}
 use Rattle.arith.proofs.roots.Numbers.{decide}
-use Rattle.arith.proofs.roots.Rounding.Key.{key, magnitude, mid, number_of, unit}
+use Rattle.arith.proofs.roots.Rounding.Key.{key, magnitude, mid, unit}
 use Rattle.arith.proofs.roots.Rounding.KeyOrder.{lt→key, nlt→key}
-use Rattle.arith.proofs.roots.Rounding.Sum.{neg_key}
-use Rattle.arith.specs.F64.{◌⊕◌, ◌⊖◌, ◌⊗◌, ◌⊘◌, ◌≺◌, 𝟘, 𝟙, e_18}
+use Rattle.arith.specs.F64.{◌⊖◌, ◌⊗◌, ◌⊘◌, ◌≺◌, 𝟘, 𝟙, e_18}
 use Rattle.arith.specs.Num.{abs}
 use Rattle.arith.proofs.Laws.Quotients.{abs_over_e_18, div_finite, inside, InUnit, one_in_unit, zero_in_unit}
 use Rattle.arith.proofs.Laws.Sizes.{abs_finite, e_18_finite, Finite, finite_number_lem, finite_raise, K, M, mul_finite, one_finite}
-use Rattle.arith.proofs.Laws.Sizes.{sub_finite, zero_finite, zero_key, zero_number}
+use Rattle.arith.proofs.Laws.Sizes.{sub_finite, zero_key, zero_number}
 use Rattle.section.proofs.profile.Steps.{pick}
 use Rattle.section.specs.segments.Segments.{unit_clamp}
 use Rattle.arith.proofs.Laws.RoundingError.{Close}

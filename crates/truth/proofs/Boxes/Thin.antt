@@ -1,9 +1,9 @@
 -- A SIDE THAT 01 DOES NOT TAKE FOR A POINT is at least 2 ^ 600 units long: a shorter one has a squared length far below 1e-24.
-use Prim.Native.Nat.{◌*◌, ◌+◌, ◌-◌, ◌<◌, ◌^◌, suc, ℕ, ◌≤◌}
+use Prim.Native.Nat.{◌*◌, ◌+◌, ◌<◌, ◌^◌, suc, ℕ, ◌≤◌}
 use mathlib.Core.Bool.{not}
 use mathlib.Core.Logic.{inl, inr}
 use mathlib.Core.Path.{◌≡◌, ap}
-use native.Mathlib.Nat.{le_of_eq, le_of_lt, le_of_mul-le-mul_left, le_trans, mul-le-mul_right}
+use native.Mathlib.Nat.{le_of_lt, le_of_mul-le-mul_left, le_trans, mul-le-mul_right}
 use native.Mathlib.Omega.{arith}
 use lib.Dec.{leb→le, lit<, T, T_not}
 use lib.Ieee.{binary64, Float, of_bits}

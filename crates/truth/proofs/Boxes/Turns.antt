@@ -12,7 +12,6 @@ use Rattle.arith.proofs.Laws.OperationErrors.{apart_over, apart_under, cancel}
 use Rattle.truth.proofs.Boxes.Across.{Best}
 use Rattle.truth.proofs.Boxes.Beside.{beside², clear_above, clear_below, FromCorner}
 use Rattle.truth.proofs.Boxes.Floats.{U}
-use Rattle.truth.proofs.Boxes.Points.{point}
 use Rattle.truth.proofs.Boxes.Signed.{Product, Sum}
 
 -- ---- the factors' order

@@ -1,34 +1,30 @@
 -- WHAT THE QUERIES ANSWER IS TRUE OF THE SURFACE: of every section and every point or sphere that is not turned down, and both
 -- reaches.
-use Prim.Native.Nat.{◌*◌, ◌+◌, ◌-◌, ◌<◌, ◌^◌, suc, zero, ℕ, ◌≤◌}
-use mathlib.Core.Bool.{Bool, false, not, true}
+use Prim.Native.Nat.{◌*◌, ◌+◌, ◌-◌, ◌^◌, ℕ, ◌≤◌}
 use mathlib.Core.List.{List, [], ◌∷◌, ◌++◌}
-use mathlib.Core.Path.{◌≡◌, refl, subst, sym}
+use mathlib.Core.Path.{◌≡◌}
 use native.Mathlib.Nat.{le_trans}
 use native.Mathlib.Omega.{arith}
-use lib.Dec.{leb→le, T}
-use lib.Ieee.{binary64, fits, Float}
-use Rattle.arith.specs.F64.{◌⊕◌, ◌≺◌, e_9}
+use lib.Dec.{leb→le}
+use lib.Ieee.{Float}
 use Rattle.arith.specs.declared.vector.Vec3.{Vec3}
 use Rattle.section.specs.profile.Refusals.{axis_tests, point_numbers, point_tests, radius_tests, refusal, sphere_numbers, sphere_tests}
-use Rattle.section.specs.profile.Replies.{OfValue, reply, Reply, turned_down, value}
-use Rattle.section.specs.profile.Vertices.{count, end_at, vertex_at}
+use Rattle.section.specs.profile.Replies.{OfValue}
+use Rattle.section.specs.profile.Vertices.{end_at, vertex_at}
 use Rattle.section.specs.declared.profile.shapes.CollisionHit.{CollisionHit}
 use Rattle.section.specs.declared.profile.shapes.Sphere.{Sphere}
-use Rattle.section.proofs.profile.Each.{All, all_first, all_rest, cons}
+use Rattle.section.proofs.profile.Each.{All, all_first, all_rest}
 use Rattle.section.proofs.profile.Refusals.Passed.{NumberTaken, taken}
 use Rattle.section.proofs.profile.Replies.{of_reply}
 use Rattle.section.specs.points.Points.{meridian, point_distance, sphere_distance}
 use Rattle.section.specs.Answers.{point_answer, sphere_answer}
-use Rattle.bodies.specs.declared.shapes.Body.TheVariants.{Sphere as Ball}
-use Rattle.bodies.specs.verdicts.Verdicts.{body_verdict}
-use Rattle.truth.specs.Exact.{origin, place, size, size_of_sum, units_of_sum}
-use Rattle.truth.specs.Points.{ClearInSpace, full, Held, metre, Reach, TrueDistance, WithinReach, ε, ε₂}
-use Rattle.truth.proofs.Points.Accepted.{fine_of, In, in_bounded, in_number, nine_of, numbers_in, Ready, ready, room_of}
+use Rattle.truth.specs.Exact.{size, size_of_sum}
+use Rattle.truth.specs.Points.{ClearInSpace, Held, Reach, TrueDistance, WithinReach, ε, ε₂}
+use Rattle.truth.proofs.Points.Accepted.{fine_of, In, in_bounded, numbers_in, Ready, ready}
 use Rattle.truth.proofs.Points.Accepted.{room_under, unit_of, square_of, ε_of, ε₂_of}
-use Rattle.truth.proofs.Points.Distance.{point_bounded, point_true, true_wider}
+use Rattle.truth.proofs.Points.Distance.{point_true, true_wider}
 use Rattle.truth.proofs.Points.Space.{space_less, space_true}
-use Rattle.truth.proofs.Points.Spheres.{cleared, sphere_true}
+use Rattle.truth.proofs.Points.Spheres.{sphere_true}
 
 -- ---- the whole surface
 -- from the meridian to space

@@ -1,18 +1,17 @@
 -- CLEAR MEANS CLEAR OF THE SURFACE, whatever the section: a sphere that is judged clear has, in space and in exact numbers, its
 -- clearance from every point of the turned surface, less 1e-9 and ε₂.
-use Prim.Native.Nat.{◌*◌, ◌+◌, ◌-◌, ◌<◌, ◌^◌, suc, zero, ℕ, ◌≤◌}
+use Prim.Native.Nat.{◌*◌, ◌+◌, ◌-◌, ◌^◌, suc, zero, ℕ, ◌≤◌}
 use mathlib.Core.Bool.{Bool, false, not, true}
 use mathlib.Core.List.{List, [], ◌∷◌, ◌++◌}
 use mathlib.Core.Path.{◌≡◌, refl, subst, sym}
 use native.Mathlib.Omega.{arith}
-use lib.Dec.{leb→le, T}
+use lib.Dec.{T}
 use lib.Ieee.{binary64, fits, Float}
-use lib.ListN.{length}
 use Rattle.arith.proofs.roots.Rounding.Key.{number}
 use Rattle.arith.specs.F64.{◌⊕◌, ◌≺◌, e_9}
 use Rattle.section.specs.profile.Refusals.{axis_tests, radius_tests, refusal, sphere_numbers, sphere_tests}
 use Rattle.section.specs.profile.Replies.{reply, Reply, turned_down, value}
-use Rattle.section.specs.profile.Vertices.{count, end_at, vertex_at}
+use Rattle.section.specs.profile.Vertices.{end_at, vertex_at}
 use Rattle.section.specs.declared.profile.shapes.Sphere.{Sphere}
 use Rattle.section.proofs.profile.Each.{All, all_first, all_rest, cons, nil}
 use Rattle.section.proofs.profile.Refusals.Passed.{NumberTaken, taken}
@@ -20,8 +19,8 @@ use Rattle.section.specs.points.Points.{meridian, sphere_distance}
 use Rattle.bodies.specs.declared.shapes.Body.TheVariants.{Sphere as Ball}
 use Rattle.section.proofs.Demand.Accepted.{taken_at_most}
 use Rattle.bodies.specs.verdicts.Verdicts.{body_verdict}
-use Rattle.truth.specs.Exact.{origin, place, size_of_sum, units_of_sum}
-use Rattle.truth.specs.Points.{ClearInSpace, full, Held, Reach, Surface, WithinReach, ε₂}
+use Rattle.truth.specs.Exact.{origin, place, size_of_sum}
+use Rattle.truth.specs.Points.{ClearInSpace, full, Held, Reach, WithinReach, ε₂}
 use Rattle.truth.proofs.Points.Accepted.{fine_of, in_bounded, in_number, nine_of, room_of, room_under, square_of, unit_of}
 use Rattle.truth.proofs.Points.Accepted.{ε₂_of}
 use Rattle.truth.proofs.Points.Answers.{sphere_ready, SphereReady}

@@ -26,13 +26,13 @@ use Rattle.bodies.specs.declared.shapes.Body.TheVariants.{Sphere as Ball}
 use Rattle.bodies.specs.verdicts.Verdicts.{body_verdict}
 use Rattle.arith.specs.Whole.{apart}
 use Rattle.truth.specs.Exact.{origin, place, size, units, units_of_sum}
-use Rattle.truth.specs.Points.{full, Held, metre, Reach, WithinReach, ε, ε₂}
+use Rattle.truth.specs.Points.{full, Held, metre, Reach, WithinReach, ε₂}
 use Rattle.truth.specs.Solid.{ClearOfSolid, ClearOfSolidInSpace, plain, SameSide, sound, vertex_inside}
 use Rattle.truth.proofs.Places.{origin_is, place_is}
 use Rattle.truth.proofs.Points.Accepted.{coarse_of, fine_of, in_bounded, nine_of, numbers_in, Ready, room_of, room_under}
 use Rattle.truth.proofs.Points.Accepted.{square_of, unit_of, vertices_in, ε₂_of}
-use Rattle.truth.proofs.Points.Answers.{point_ready, sphere_ready, SphereReady}
-use Rattle.truth.proofs.Points.Verdicts.{Judged, sphere_judged}
+use Rattle.truth.proofs.Points.Answers.{point_ready, sphere_ready}
+use Rattle.truth.proofs.Points.Verdicts.{sphere_judged}
 use Rattle.truth.proofs.Sides.Clear.{inside_or_axis, point_solid}
 use Rattle.truth.proofs.Sides.Inside.{inside_true, side_true}
 use Rattle.truth.proofs.Sides.Sound.{sound_plain}

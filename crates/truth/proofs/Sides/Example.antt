@@ -1,10 +1,10 @@
 -- THE HYPOTHESES ARE MET at readings of 01, and the theorem says something there; and WITHOUT THE HYPOTHESIS THE SIGN IS NOT
 -- TRUE: an input.
-use Prim.Native.Nat.{◌+◌, ◌-◌, ◌*◌, ◌≤◌}
+use Prim.Native.Nat.{◌+◌, ◌-◌, ◌*◌}
 use mathlib.Core.Bool.{false, true}
 use mathlib.Core.List.{List, [], ◌∷◌}
 use mathlib.Core.Path.{◌≡◌, refl}
-use lib.Dec.{leb→le, T}
+use lib.Dec.{T}
 use lib.Ieee.{add, binary64, div, eq, fin, fits, Float, le, lt, mul, nan, neg, of_bits, sub}
 use lib.IntN.{pos}
 use Rattle.arith.specs.F64.{◌≼◌, e_9}

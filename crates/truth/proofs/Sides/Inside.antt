@@ -1,5 +1,5 @@
 -- 01's EVEN-ODD RULE IS TRUE of every point that is farther from the surface than the errors reach, beside a plain section.
-use Prim.Native.Nat.{◌*◌, ◌-◌, ◌<◌, ◌^◌, suc, ℕ, ◌≤◌}
+use Prim.Native.Nat.{◌*◌, ◌<◌, ◌^◌, suc, ℕ, ◌≤◌}
 use mathlib.Core.Bool.{◌&&◌, ◌||◌, Bool, cond, false, not, true}
 use mathlib.Core.List.{List}
 use mathlib.Core.Logic.{inl, inr, ◌⊎◌}

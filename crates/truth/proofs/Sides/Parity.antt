@@ -2,7 +2,7 @@
 -- the section has a point on the segment from p to q. Of each edge that has none, the crossings from p and from q differ exactly
 -- where one of its ends lies between the two lines of sight and beyond the segment and the other does not; round the section that
 -- happens an even number of times.
-use Prim.Native.Nat.{ℕ, zero, suc, ◌+◌, ◌-◌, ◌<◌, ◌≤◌}
+use Prim.Native.Nat.{ℕ, zero, suc, ◌+◌, ◌<◌, ◌≤◌}
 use mathlib.Core.Bool.{Bool, true, false, not, ◌&&◌, cond}
 use mathlib.Core.Logic.{inl, inr, ◌⊎◌}
 use mathlib.Core.Path.{◌≡◌, ap, ap₂, refl, sym, subst, ◌∙◌}

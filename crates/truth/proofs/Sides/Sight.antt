@@ -7,7 +7,7 @@ use native.Mathlib.Nat.{le_of_eq, le_of_lt, le_of_mul-le-mul_left, le_refl, le_t
 use native.Mathlib.Nat.{mul-le-mul_right}
 use native.Mathlib.Omega.{arith}
 use lib.Dec.{T}
-use lib.Ieee.{add, div, Float, Format, low, mul, prec, sub}
+use lib.Ieee.{add, div, Float, Format, mul, prec, sub}
 use lib.Pow.{pow_pos}
 use Rattle.arith.proofs.roots.Numbers.{decide}
 use Rattle.arith.proofs.roots.Rounding.Key.{finite_inside, finite_number, key, mid, number, unit, unit_pos}

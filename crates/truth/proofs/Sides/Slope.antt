@@ -2,7 +2,7 @@
 -- key of zero, U that of one less M, u half the last place of a number twice as large as the ends of the edge, 2 K u of which are
 -- their bound. D is how far the ends are apart in radius, W how far the point and the first end, o and t what these are rounded
 -- to; kd, kn, kq, kz are the keys of d = bz - az, d w, d w / t and az + d w / t.
-use Prim.Native.Nat.{◌*◌, ◌+◌, ◌-◌, ◌<◌, ℕ, ◌≤◌}
+use Prim.Native.Nat.{◌*◌, ◌+◌, ◌<◌, ℕ, ◌≤◌}
 use mathlib.Core.Path.{◌≡◌, ap}
 use native.Mathlib.Nat.{le_of_eq, le_of_mul-le-mul_left, le_trans, mul-le-mul_left, mul-le-mul_right}
 use native.Mathlib.Omega.{arith}

@@ -1,6 +1,6 @@
 -- WHAT THE CYLINDER QUERY ANSWERS IS TRUE of every cylinder across the spindle that is not turned down, if box distance is true
 -- of boxes: what the walk asks of the cylinder, the section and the settings is what the query's tests leave.
-use Prim.Native.Nat.{◌+◌, ◌<◌, ◌^◌, ℕ, ◌≤◌}
+use Prim.Native.Nat.{◌+◌, ◌<◌, ◌^◌, ℕ}
 use mathlib.Core.Bool.{false, true}
 use mathlib.Core.List.{List, []}
 use mathlib.Core.Path.{sym}

@@ -12,10 +12,10 @@ use lib.Pow.{pow_pos}
 use Rattle.arith.specs.roots.Roots.{hypot}
 use Rattle.arith.proofs.roots.Rounding.Key.{finite_number}
 use Rattle.arith.specs.F64.{◌⊕◌, ◌⊖◌, ◌⊗◌, ½}
-use Rattle.arith.specs.Num.{max as max_of, min as minOf}
+use Rattle.arith.specs.Num.{max as max_of, min as min_of}
 use Rattle.arith.proofs.Laws.Bounded.{Bounded, bounded_up, mid_lt, overflow}
 use Rattle.arith.proofs.Laws.BoundedValue.{add_value, bounded→value, sub_value}
-use Rattle.arith.proofs.Laws.Middle.{half as oneHalf, half_is, half_near, IsHalf}
+use Rattle.arith.proofs.Laws.Middle.{half as one_half, half_is, half_near, IsHalf}
 use Rattle.arith.proofs.Laws.SizedOrder.{half_not_negative, hypot_not_negative, max_finite_key, min_finite_key}
 use Rattle.arith.proofs.Laws.Sizes.{Finite, finite_given, half_finite, hypot_finite, K, M, sub_finite}
 use Rattle.walk.specs.bands.Band.{band_of, mean}
@@ -35,7 +35,7 @@ use Rattle.truth.proofs.Walk.Squares.{root_le}
 use Rattle.truth.proofs.Walk.Triangle.{apart_through, apart_times, both_longer, off_middle, shift, Shifted, triangle}
 
 half_half : IsHalf binary64 ½
-unfolding of_bits oneHalf
+unfolding of_bits one_half
 half_half = half_is binary64
 
 module _ (f m : ℕ) (S : Scaled f m) where
@@ -174,10 +174,10 @@ module _ (f m : ℕ) (S : Scaled f m) where
         record { bounded = bounded_up binary64 (53 + f) 1094 x q (within_bounded (53 + f) x X) }
 
     -- x between the ends
-    from_least : (i j n : ℕ) → n ≡ i + j → n * place (minOf c.a.x c.b.x) ≤ j * place c.a.x + i * place c.b.x
+    from_least : (i j n : ℕ) → n ≡ i + j → n * place (min_of c.a.x c.b.x) ≤ j * place c.a.x + i * place c.b.x
     from_least i j n e =
         let k = min_finite_key (finite_in C.ax) (finite_in C.bx) in
-        rw (place_is (minOf c.a.x c.b.x), place_is c.a.x, place_is c.b.x, k, e) (go (K c.a.x) (K c.b.x))
+        rw (place_is (min_of c.a.x c.b.x), place_is c.a.x, place_is c.b.x, k, e) (go (K c.a.x) (K c.b.x))
       where
         go : (a b : ℕ) → (i + j) * min a b ≤ j * a + i * b
         go a b =
@@ -369,8 +369,8 @@ module _ (f m : ℕ) (S : Scaled f m) where
               go : (b v : ℕ) → w + b ≤ w⁺ → ε + v ≤ δ → w - δ ≤ w⁺ - ε - (b + v)
               go b v h l = omega arith
 
-      pub lean_kept : (ε δ w⁺ w : ℕ) {radius tol : Float} {wasCut : Bool} → (w ≡ 0) ⊎ (w + half_lean ≤ w⁺) → ε + 5 * u ≤ δ
-          → Kept ε w⁺ radius tol wasCut (Straight (band_of c)) Counts → Kept δ w radius tol wasCut (Leaning c) Counts
+      pub lean_kept : (ε δ w⁺ w : ℕ) {radius tol : Float} {was_cut : Bool} → (w ≡ 0) ⊎ (w + half_lean ≤ w⁺) → ε + 5 * u ≤ δ
+          → Kept ε w⁺ radius tol was_cut (Straight (band_of c)) Counts → Kept δ w radius tol was_cut (Leaning c) Counts
       lean_kept ε δ w⁺ w h l k = record {
         uncut = λ e v n. lean_clear (v + ε) (v + δ) w⁺ w h (sums v ε (5 * u) δ l) (k.uncut e v n);
         cut = λ e. lean_clear ε δ w⁺ w h l (k.cut e);

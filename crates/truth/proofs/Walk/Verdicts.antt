@@ -106,10 +106,10 @@ module _ {Points : ℕ → ℕ → ℕ → ℕ → Type 0} {Counts : ℕ → ℕ
         le_trans (mul-le-mul b b) (c.proof n X Y Z q z r X' Y' C t T');
   }
 
-  module _ {radius tol : Float} {wasCut : Bool} where
+  module _ {radius tol : Float} {was_cut : Bool} where
     -- w', no more than μ above w, is kept but for μ more
-    kept_less : (ε δ μ w w' : ℕ) → w' ≤ w + μ → ε + μ ≤ δ → Kept ε w radius tol wasCut Points Counts
-        → Kept δ w' radius tol wasCut Points Counts
+    kept_less : (ε δ μ w w' : ℕ) → w' ≤ w + μ → ε + μ ≤ δ → Kept ε w radius tol was_cut Points Counts
+        → Kept δ w' radius tol was_cut Points Counts
     kept_less ε δ μ w w' h l k = record {
       uncut = λ c v m. clear_less (v + ε) (v + δ) μ w w' h (sums v ε μ δ l) (k.uncut c v m);
       cut = λ c. clear_less ε δ μ w w' h l (k.cut c);
@@ -119,13 +119,13 @@ module _ {Points : ℕ → ℕ → ℕ → ℕ → Type 0} {Counts : ℕ → ℕ
         sums v x y z h = omega arith
 
   -- cut or not, it is kept but for the margin
-  pub kept_less_margin : (ε w : ℕ) (radius tol : Float) (wasCut : Bool) → Kept ε w radius tol wasCut Points Counts
+  pub kept_less_margin : (ε w : ℕ) (radius tol : Float) (was_cut : Bool) → Kept ε w radius tol was_cut Points Counts
       → (v : ℕ) → Margin radius tol v → Clear (v + ε) w Points Counts
   kept_less_margin ε w radius tol false k v m = k.uncut refl v m
   kept_less_margin ε w radius tol true k v m = clear_less ε (v + ε) 0 w w (omega arith) (omega arith) (k.cut refl)
 
-exchange_kept : (Points : ℕ → ℕ → ℕ → ℕ → Type 0) {Counts : ℕ → ℕ → ℕ → Type 0} {radius tol : Float} {wasCut : Bool} {ε w : ℕ}
-    → Kept ε w radius tol wasCut Points Counts → Kept ε w radius tol wasCut (λ n X Y Z. Points n Y X Z) Counts
+exchange_kept : (Points : ℕ → ℕ → ℕ → ℕ → Type 0) {Counts : ℕ → ℕ → ℕ → Type 0} {radius tol : Float} {was_cut : Bool} {ε w : ℕ}
+    → Kept ε w radius tol was_cut Points Counts → Kept ε w radius tol was_cut (λ n X Y Z. Points n Y X Z) Counts
 exchange_kept Points {ε = ε} {w = w} k = record {
   uncut = λ c v n. exchange_clear (v + ε) w Points (k.uncut c v n);
   cut = λ c. exchange_clear ε w Points (k.cut c);

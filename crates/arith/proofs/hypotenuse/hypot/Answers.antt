@@ -1,5 +1,5 @@
 -- `arith::hypotenuse::hypot` meets its contract: a sum of squares that is no NaN has no operand that is.
-use Rattle.std.proofs.Common.{◌≡◌, true, T, sym, subst, rules}
+use Rattle.std.proofs.Common.{◌≡◌, true, T, sym, subst}
 use lib.Ieee.{Float, binary64, fits}
 use Rattle.arith.proofs.roots.Root.HypotValue.{hypot_by_bits}
 use Rattle.arith.proofs.roots.Pattern.Special.{no_nan, like_itself, squares_left, squares_right}

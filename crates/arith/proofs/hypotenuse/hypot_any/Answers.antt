@@ -1,5 +1,5 @@
 -- `arith::hypotenuse::hypot_any` meets its contract.
-use Rattle.std.proofs.Common.{◌≡◌, true, T, sym, subst, le_refl, rules}
+use Rattle.std.proofs.Common.{◌≡◌, true, T, sym, subst, le_refl}
 use lib.Ieee.{Float, binary64, fits}
 use Rattle.arith.proofs.roots.Root.HypotValue.{hypot_by_bits, inf_left, inf_right, nan_right, nan_left, nan_both}
 use Rattle.arith.proofs.roots.Pattern.Special.{no_nan, like_itself}

@@ -1,5 +1,5 @@
 -- `arith::hypotenuse::hypot_bits`. The larger and the smaller operand are a and b in either order: the hypotenuse is the same.
-use Rattle.std.proofs.Common.{arith, rules}
+use Rattle.std.proofs.Common.{arith}
 use Rattle.arith.proofs.roots.Root.HypotCore.{operands, either_way}
 use Rattle.arith.proofs.hypotenuse.hypot_bits.Goals as goal
 

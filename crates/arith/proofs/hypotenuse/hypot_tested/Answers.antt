@@ -1,5 +1,5 @@
 -- `arith::hypotenuse::hypot_tested`. 27 binades apart the larger operand is the root; nearer, what passes the test is.
-use Rattle.std.proofs.Common.{◌<◌, zero-le, lt_irrefl, arith, rules}
+use Rattle.std.proofs.Common.{◌<◌, zero-le, lt_irrefl, arith}
 use Rattle.arith.proofs.roots.Root.HypotCore.{far_bits, fast_binade}
 use Rattle.arith.proofs.hypotenuse.hypot_tested.Goals as goal
 

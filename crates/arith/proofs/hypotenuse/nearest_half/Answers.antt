@@ -1,5 +1,5 @@
 -- `arith::hypotenuse::nearest_half`. Of the three candidates about g, the one that the test names, counted from g - 1.
-use Rattle.std.proofs.Common.{ℕ, ◌+◌, ◌≤◌, refl, arith, rules}
+use Rattle.std.proofs.Common.{ℕ, ◌+◌, ◌≤◌, refl, arith}
 use Rattle.arith.proofs.roots.Root.SqrtCore.{below_inside}
 use Rattle.arith.specs.roots.Steps.{NearestHalfBelow}
 use Rattle.arith.proofs.hypotenuse.nearest_half.Goals as goal

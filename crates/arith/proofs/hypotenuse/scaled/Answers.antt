@@ -1,5 +1,5 @@
 -- `arith::hypotenuse::scaled`. A shift by 0 or 1.
-use Rattle.std.proofs.Common.{◌≡◌, ℕ, zero, suc, ◌-◌, ◌*◌, ◌%◌, ◌^◌, ◌<◌, arith, rules}
+use Rattle.std.proofs.Common.{ℕ, zero, suc, ◌-◌, ◌*◌, ◌%◌, ◌^◌, ◌<◌, arith}
 use Rattle.arith.specs.roots.Steps.{Scaled}
 use Rattle.arith.proofs.hypotenuse.scaled.Goals as goal
 

@@ -1,5 +1,5 @@
 -- `arith::hypotenuse::sticky`. The square's digits that a shift loses are those of its lower limb.
-use Rattle.std.proofs.Common.{arith, rules}
+use Rattle.std.proofs.Common.{arith}
 use Rattle.arith.proofs.roots.Root.HypotSticky.{sticky_zero, sticky_one}
 use Rattle.arith.proofs.hypotenuse.sticky.Goals as goal
 

@@ -1,5 +1,5 @@
 -- `arith::order::is_finite` meets its contract: finite is above minus infinity and below infinity.
-use Rattle.std.proofs.Common.{◌≡◌, true, false, sym, refl, rules}
+use Rattle.std.proofs.Common.{◌≡◌, true, false, sym, refl}
 use lib.Ieee.{Float, nan, inf, fin, lt, neg}
 use Rattle.arith.specs.Num.{is_finite}
 use Rattle.arith.proofs.order.is_finite.Goals as goal

@@ -1,5 +1,5 @@
 -- `arith::square_root::sqrt` meets its contract.
-use Rattle.std.proofs.Common.{◌≡◌, ℕ, ◌<◌, ◌≤◌, true, T, sym, subst, le_of_lt, arith, rules}
+use Rattle.std.proofs.Common.{◌≡◌, ℕ, ◌<◌, ◌≤◌, true, T, sym, subst, le_of_lt, arith}
 use lib.Ieee.{Float, binary64, fits, to_bits}
 use lib.Ieee.Bits.{to_bits-lt}
 use Rattle.arith.proofs.roots.Root.SqrtValue.{normal_sqrt, sqrt_by_bits, sqrt_same, sqrt_fixed, sqrt_no, sqrt_of_nan}

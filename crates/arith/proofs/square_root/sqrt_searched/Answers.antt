@@ -1,5 +1,5 @@
 -- `arith::square_root::sqrt_searched`. The radicand's rounded root, at half the exponent.
-use Rattle.std.proofs.Common.{arith, rules}
+use Rattle.std.proofs.Common.{arith}
 use Rattle.arith.proofs.roots.Root.SqrtCore.{sqrt_law}
 use Rattle.arith.proofs.square_root.sqrt_searched.Goals as goal
 

@@ -1,5 +1,5 @@
 -- `arith::square_root::sqrt_significand`. The bisection's candidate; the radicand is even and the midpoint's square odd, so that there is no tie.
-use Rattle.std.proofs.Common.{◌≡◌, ℕ, ◌+◌, ◌-◌, ◌*◌, ◌^◌, ◌<◌, sym, subst, arith, rules}
+use Rattle.std.proofs.Common.{◌≡◌, ℕ, ◌+◌, ◌-◌, ◌*◌, ◌^◌, ◌<◌, sym, subst, arith}
 use Rattle.arith.specs.roots.Steps.{NearestHalf, RoundsUpAt, RoundsDownAt, RoundsUp, RoundsDown, Rounded}
 use Rattle.arith.proofs.square_root.sqrt_significand.Goals as goal
 

@@ -1,5 +1,5 @@
 -- `arith::square_root::sqrt_subnormal`. The invariant: m * 2^e stays, as m doubles up to 2^52. It bounds e from below.
-use Rattle.std.proofs.Common.{◌≡◌, ℕ, ◌-◌, ◌*◌, ◌^◌, ◌<◌, ◌≤◌, refl, ◌∙◌, arith, rules}
+use Rattle.std.proofs.Common.{ℕ, ◌≤◌, refl, ◌∙◌, arith, rules}
 use Rattle.arith.specs.roots.Steps.{Subnormal}
 use Rattle.arith.proofs.roots.Root.SqrtValue.{small_sqrt, doubled, large}
 use Rattle.arith.proofs.square_root.sqrt_subnormal.Invariants.{Doubled}

@@ -1,7 +1,5 @@
 -- `arith::square_root::sqrt_subnormal`. The invariant: m * 2^e stays, as m doubles up to 2^52. It bounds e from below.
-use Rattle.std.proofs.Common.{◌≡◌, ℕ, ◌-◌, ◌*◌, ◌^◌, ◌<◌, ◌≤◌, refl, ◌∙◌, arith, rules}
-use Rattle.arith.specs.roots.Steps.{Subnormal}
-use Rattle.arith.proofs.roots.Root.SqrtValue.{small_sqrt, doubled, large}
+use Rattle.std.proofs.Common.{◌≡◌, ℕ, ◌-◌, ◌*◌, ◌^◌, ◌<◌, ◌≤◌}
 use Rattle.arith.proofs.square_root.sqrt_subnormal.Given as goal
 
 pub record Doubled (b m e : ℕ) : Type 0 where

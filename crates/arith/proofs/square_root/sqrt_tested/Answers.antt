@@ -1,5 +1,5 @@
 -- `arith::square_root::sqrt_tested`. What passes the test is the root.
-use Rattle.std.proofs.Common.{◌<◌, lt_irrefl, arith, rules}
+use Rattle.std.proofs.Common.{◌<◌, lt_irrefl, arith}
 use Rattle.arith.proofs.roots.Root.SqrtCore.{sqrt_checked}
 use Rattle.arith.proofs.square_root.sqrt_tested.Goals as goal
 

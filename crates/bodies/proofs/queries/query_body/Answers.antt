@@ -1,5 +1,4 @@
 -- `bodies::queries::query_body` meets its contract: by the kind of the body.
-use borrow.Author.Rules.{rules}
 use Rattle.bodies.specs.Bodies.{body_answer}
 use Rattle.walk.specs.cylinders.Cylinders.{cylinder_answer}
 use Rattle.bodies.proofs.queries.query_body.Goals as goal

@@ -1,5 +1,4 @@
 -- `bodies::queries::query_box` meets its contract: the number or the hit, and demand 1 of it.
-use borrow.Author.Rules.{rules}
 use mathlib.Core.List.{◌++◌}
 use mathlib.Core.Path.{sym, ◌∙◌}
 use Rattle.section.specs.profile.Refusals.{axis_tests, bounds_tests}

@@ -1,5 +1,4 @@
 -- `bodies::queries::query_sphere` meets its contract: the number or the hit, and demand 1 of it.
-use borrow.Author.Rules.{rules}
 use mathlib.Core.List.{◌++◌}
 use mathlib.Core.Path.{sym, ◌∙◌}
 use Rattle.section.specs.profile.Refusals.{axis_tests, radius_tests}
@@ -7,7 +6,7 @@ use Rattle.section.proofs.profile.Refusals.Passed.{section_long}
 use Rattle.section.proofs.profile.Replies.{answered, refused}
 use Rattle.walk.specs.settings.Settings.{settings_tests}
 use Rattle.bodies.specs.Bodies.{body_answer, BodyPromised}
-use Rattle.bodies.specs.declared.shapes.Body.TheVariants as body·kinds
+use Rattle.bodies.specs.declared.shapes.Body.TheVariants as body_kinds
 use Rattle.bodies.proofs.OfKind.{sphere_promised}
 use Rattle.bodies.proofs.queries.query_sphere.Goals as goal
 
@@ -15,7 +14,7 @@ pub returns-then-number-ne0 : goal.returns-then-number-ne0
 unfolding body_answer
 returns-then-number-ne0 c =
     let a = c.args in
-    answered (BodyPromised _ (body·kinds.Sphere a.sphere) a.settings) (sphere_promised _ a.settings a.sphere)
+    answered (BodyPromised _ (body_kinds.Sphere a.sphere) a.settings) (sphere_promised _ a.settings a.sphere)
     (rw (← c.sphere_refusal-number.ensures (settings_tests a.settings) tt c.settings_refusal.ensures)
     (refused _ _ c.if-number-ne0.true))
 
@@ -31,7 +30,7 @@ unfolding body_answer
 returns c =
     let a = c.args in
     let number = c.settings_refusal.ensures in
-    answered (BodyPromised _ (body·kinds.Sphere a.sphere) a.settings) (sphere_promised _ a.settings a.sphere)
+    answered (BodyPromised _ (body_kinds.Sphere a.sphere) a.settings) (sphere_promised _ a.settings a.sphere)
     (rw (
       ← c.sphere_refusal-number.ensures (settings_tests a.settings) tt number,
       c.if-number-ne0.false,

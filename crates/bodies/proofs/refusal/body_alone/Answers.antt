@@ -1,5 +1,4 @@
 -- `bodies::refusal::body_alone` meets its contract.
-use borrow.Author.Rules.{rules}
 use Rattle.bodies.proofs.refusal.body_alone.Goals as goal
 
 pub returns-in-Sphere : goal.returns-in-Sphere

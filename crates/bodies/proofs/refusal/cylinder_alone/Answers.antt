@@ -1,5 +1,4 @@
 -- `bodies::refusal::cylinder_alone` meets its contract.
-use borrow.Author.Rules.{rules}
 use Rattle.section.specs.profile.Refusals.{number_tests}
 use Rattle.bodies.proofs.Alone.{then_own}
 use Rattle.bodies.proofs.refusal.cylinder_alone.Goals as goal

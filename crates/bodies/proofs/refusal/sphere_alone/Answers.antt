@@ -1,5 +1,4 @@
 -- `bodies::refusal::sphere_alone` meets its contract.
-use borrow.Author.Rules.{rules}
 use Rattle.section.specs.profile.Refusals.{number_tests}
 use Rattle.bodies.proofs.Alone.{then_own}
 use Rattle.bodies.proofs.refusal.sphere_alone.Goals as goal

@@ -1,6 +1,5 @@
 -- `loads::draws::coordinate_bits`. A coordinate is no NaN.
 use Rattle.loads.proofs.Coordinates.{no_nan, coordinate_ranged}
-use borrow.Author.Rules.{rules}
 use Rattle.loads.proofs.draws.coordinate_bits.Goals as goal
 
 pub float_to_bits-result : goal.float_to_bits-result

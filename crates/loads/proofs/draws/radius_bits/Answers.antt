@@ -5,7 +5,6 @@ use lib.Dec.{T}
 use lib.Ieee.{Float, binary64, to_bits, is_nan}
 use Rattle.arith.specs.Num.{abs}
 use Rattle.loads.proofs.Coordinates.{no_nan, radius_ranged}
-use borrow.Author.Rules.{rules}
 use Rattle.loads.proofs.draws.radius_bits.Goals as goal
 
 pub returns : goal.returns

@@ -3,7 +3,6 @@ use native.Mathlib.Omega.{arith}
 use Rattle.store.specs.Records.{record_bytes}
 use Rattle.store.proofs.ReadBack.{length_low}
 use Rattle.listings.proofs.store_listing.Writing.{then}
-use borrow.Author.Rules.{rules}
 use Rattle.loads.proofs.fields.put_record.Goals as goal
 
 pub put_bytes-f-requires : goal.put_bytes-f-requires

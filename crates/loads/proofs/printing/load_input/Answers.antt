@@ -1,7 +1,6 @@
 -- `loads::printing::load_input` prints what its definition says.
 use Rattle.loads.specs.Printed.{input_text}
 use Rattle.loads.proofs.Answered.{asked_printed}
-use borrow.Author.Rules.{rules}
 use Rattle.loads.proofs.printing.load_input.Goals as goal
 
 pub returns : goal.returns

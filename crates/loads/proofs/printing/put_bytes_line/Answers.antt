@@ -4,7 +4,6 @@ use Rattle.listings.specs.store_listing.Text.{text}
 use Rattle.listings.proofs.store_listing.Writing.{then}
 use Rattle.loads.specs.Printed.{bytes_line}
 use Rattle.loads.proofs.Lines.{length_digits, length_bytes_line}
-use borrow.Author.Rules.{rules}
 use Rattle.loads.proofs.printing.put_bytes_line.Goals as goal
 
 pub put_digits-a-requires : goal.put_digits-a-requires

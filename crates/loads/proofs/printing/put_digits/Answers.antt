@@ -1,12 +1,8 @@
 -- `loads::printing::put_digits`. One byte has its two digits in a turn.
-use Prim.Native.Nat.{◌-◌, ◌≤◌}
 use native.Mathlib.Omega.{arith}
 use mathlib.Core.List.{flat_map}
-use mathlib.Core.Path.{◌≡◌, refl}
-use lib.ListN.{length, take}
+use mathlib.Core.Path.{refl}
 use lib.Seq.{take_all}
-use Rattle.listings.specs.store_listing.Text.{hex}
-use Rattle.listings.specs.store_listing.Steps.{Written}
 use Rattle.listings.proofs.store_listing.Pieces.{line_more}
 use Rattle.listings.proofs.store_listing.Writing.{nothing_written}
 use Rattle.loads.proofs.Lines.{digits_room}

@@ -4,7 +4,6 @@ use lib.ListN.{length-append}
 use Rattle.listings.specs.store_listing.Text.{text}
 use Rattle.listings.proofs.store_listing.Writing.{then}
 use Rattle.loads.specs.Printed.{refused_line}
-use borrow.Author.Rules.{rules}
 use Rattle.loads.proofs.printing.put_refused_line.Goals as goal
 
 pub put_word-a-requires : goal.put_word-a-requires

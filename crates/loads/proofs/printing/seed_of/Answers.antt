@@ -1,7 +1,6 @@
 -- `loads::printing::seed_of` is its definition.
 use borrow.Author.Tests.{eq-eqb, ne_eqb}
 use Rattle.loads.specs.Printed.{seed_of}
-use borrow.Author.Rules.{rules}
 use Rattle.loads.proofs.printing.seed_of.Goals as goal
 
 pub returns-then-n-eq16 : goal.returns-then-n-eq16

@@ -1,6 +1,5 @@
 -- `loads::runs::put_sphere`. Four steps, and the record of what they give.
 use Rattle.loads.proofs.Putting.{sphere_drawn}
-use borrow.Author.Rules.{rules}
 use Rattle.loads.proofs.runs.put_sphere.Goals as goal
 
 pub returns : goal.returns

@@ -1,11 +1,6 @@
 -- `loads::runs::put_spheres`. Four states go into a sphere in a turn.
-use Prim.Native.Nat.{◌+◌, ◌-◌, ◌*◌, ◌≤◌}
 use native.Mathlib.Omega.{arith}
-use mathlib.Core.Path.{◌≡◌, refl}
-use lib.ListN.{length}
-use Rattle.loads.specs.Xorshift.{state_after}
-use Rattle.loads.specs.Load.{load_spheres}
-use Rattle.loads.specs.Steps.{Drawn}
+use mathlib.Core.Path.{refl}
 use Rattle.loads.proofs.Putting.{spheres_none, spheres_more, spheres_end}
 use borrow.Author.Rules.{rules}
 use Rattle.loads.proofs.runs.put_spheres.Goals as goal

@@ -1,13 +1,10 @@
 -- `loads::runs::put_spheres`. Four states go into a sphere in a turn.
 use Prim.Native.Nat.{◌+◌, ◌-◌, ◌*◌, ◌≤◌}
-use native.Mathlib.Omega.{arith}
-use mathlib.Core.Path.{◌≡◌, refl}
+use mathlib.Core.Path.{◌≡◌}
 use lib.ListN.{length}
 use Rattle.loads.specs.Xorshift.{state_after}
 use Rattle.loads.specs.Load.{load_spheres}
 use Rattle.loads.specs.Steps.{Drawn}
-use Rattle.loads.proofs.Putting.{spheres_none, spheres_more, spheres_end}
-use borrow.Author.Rules.{rules}
 use Rattle.loads.proofs.runs.put_spheres.Given as goal
 
 abbrev pub invariant-loop-j : goal.invariant-loop-j

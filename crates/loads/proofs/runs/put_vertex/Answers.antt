@@ -1,6 +1,5 @@
 -- `loads::runs::put_vertex`. Two steps, and the record of what they give.
 use Rattle.loads.proofs.Putting.{vertex_drawn}
-use borrow.Author.Rules.{rules}
 use Rattle.loads.proofs.runs.put_vertex.Goals as goal
 
 pub returns : goal.returns

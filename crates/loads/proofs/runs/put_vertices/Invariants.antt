@@ -1,13 +1,10 @@
 -- `loads::runs::put_vertices`. Two states go into a vertex in a turn.
 use Prim.Native.Nat.{◌-◌, ◌*◌, ◌≤◌}
-use native.Mathlib.Omega.{arith}
-use mathlib.Core.Path.{◌≡◌, refl}
+use mathlib.Core.Path.{◌≡◌}
 use lib.ListN.{length}
 use Rattle.loads.specs.Xorshift.{state_after}
 use Rattle.loads.specs.Load.{load_vertices}
 use Rattle.loads.specs.Steps.{Drawn}
-use Rattle.loads.proofs.Putting.{vertices_none, vertices_more, vertices_end}
-use borrow.Author.Rules.{rules}
 use Rattle.loads.proofs.runs.put_vertices.Given as goal
 
 abbrev pub invariant-loop-i : goal.invariant-loop-i

@@ -2,7 +2,6 @@
 use native.Mathlib.Omega.{arith}
 use borrow.Author.Tests.{eq-eqb, ne_eqb}
 use Rattle.loads.specs.Load.{sphere_next}
-use borrow.Author.Rules.{rules}
 use Rattle.loads.proofs.runs.sphere_next.Goals as goal
 
 pub returns-then-j-eq31 : goal.returns-then-j-eq31

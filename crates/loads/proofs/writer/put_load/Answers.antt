@@ -1,6 +1,5 @@
 -- `loads::writer::put_load`. Record 0, the vertices, the spheres, one behind the other.
 use Rattle.loads.proofs.Putting.{load_put}
-use borrow.Author.Rules.{rules}
 use Rattle.loads.proofs.writer.put_load.Goals as goal
 
 pub returns : goal.returns

@@ -1,5 +1,4 @@
 -- `section::queries::convex_polygon_distance` meets its contract: the number or the hit, and demand 1 of it.
-use borrow.Author.Rules.{rules}
 use mathlib.Core.Path.{sym, ◌∙◌}
 use Rattle.section.specs.profile.Refusals.{axis_tests}
 use Rattle.section.proofs.profile.Refusals.Passed.{convex_long}

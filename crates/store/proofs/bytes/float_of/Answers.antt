@@ -2,7 +2,6 @@
 use mathlib.Core.Path.{sym, ◌∙◌}
 use Rattle.arith.proofs.roots.Pattern.Special.{above_inf}
 use Rattle.store.proofs.Patterns.{not_nan, zero_by_zero}
-use borrow.Author.Rules.{rules}
 use Rattle.store.proofs.bytes.float_of.Goals as goal
 
 pub returns-then-bits-gt9218868437227405312 : goal.returns-then-bits-gt9218868437227405312

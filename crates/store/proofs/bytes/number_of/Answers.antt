@@ -2,7 +2,6 @@
 use mathlib.Core.Path.{ap, ◌∙◌}
 use lib.Ieee.{binary64, of_bits}
 use Rattle.store.specs.Records.{number}
-use borrow.Author.Rules.{rules}
 use Rattle.store.proofs.bytes.number_of.Goals as goal
 
 pub returns : goal.returns

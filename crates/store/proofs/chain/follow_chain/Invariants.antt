@@ -1,9 +1,6 @@
 -- `store::chain::follow_chain`. One record of the chain is passed in a turn.
 use Prim.Native.Nat.{◌-◌}
-use native.Mathlib.Omega.{arith}
-use lib.ListN.{length-set}
-use Rattle.store.proofs.Following.{Following, starts, turn_ends, turn_breaks, turn_goes_on, used_up, ended, stopped}
-use borrow.Author.Rules.{rules}
+use Rattle.store.proofs.Following.{Following}
 use Rattle.store.proofs.chain.follow_chain.Given as goal
 
 abbrev pub invariant-loop-n : goal.invariant-loop-n

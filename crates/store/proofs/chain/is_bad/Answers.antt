@@ -1,6 +1,5 @@
 -- `store::chain::is_bad` meets its contract.
 use borrow.Author.Tests.{le-leb, lt-leb}
-use borrow.Author.Rules.{rules}
 use Rattle.store.proofs.chain.is_bad.Goals as goal
 
 pub returns-then-count-place : goal.returns-then-count-place

@@ -1,6 +1,5 @@
 -- `store::chain::visit`. One store, and one read.
 use mathlib.Core.Path.{refl}
-use borrow.Author.Rules.{rules}
 use Rattle.store.proofs.chain.visit.Goals as goal
 
 pub returns : goal.returns

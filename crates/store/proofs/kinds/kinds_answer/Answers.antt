@@ -1,9 +1,6 @@
 -- `store::kinds::kinds_answer` meets its contract: what is left to look at gives the answer.
-use Prim.Native.Nat.{◌-◌, ◌≤◌}
 use mathlib.Core.Bool.{not}
-use mathlib.Core.Path.{◌≡◌, refl, sym, ap, ◌∙◌}
-use lib.ListN.{length, drop}
-use Rattle.store.specs.Kinds.{kinds_answer}
+use mathlib.Core.Path.{refl, sym, ap, ◌∙◌}
 use Rattle.store.proofs.Lists.{first_more, first_found, first_end}
 use borrow.Author.Rules.{rules}
 use Rattle.store.proofs.kinds.kinds_answer.Goals as goal

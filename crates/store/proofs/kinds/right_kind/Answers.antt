@@ -1,7 +1,6 @@
 -- `store::kinds::right_kind` meets its contract.
 use borrow.Author.Tests.{eq-eqb, ne_eqb}
 use Rattle.store.specs.Kinds.{right_kind}
-use borrow.Author.Rules.{rules}
 use Rattle.store.proofs.kinds.right_kind.Goals as goal
 
 pub returns-then-k-eq0 : goal.returns-then-k-eq0

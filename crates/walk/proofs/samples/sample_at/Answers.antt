@@ -1,7 +1,6 @@
 -- `walk::samples::sample_at` meets its contract.
 use Rattle.section.specs.profile.Vertices.{upto}
 use Rattle.walk.specs.Walk.{sample_vertex}
-use borrow.Author.Rules.{rules}
 use Rattle.walk.proofs.samples.sample_at.Goals as goal
 
 pub returns : goal.returns

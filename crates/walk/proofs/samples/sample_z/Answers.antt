@@ -1,5 +1,4 @@
 -- `walk::samples::sample_z` meets its contract.
-use borrow.Author.Rules.{rules}
 use Rattle.walk.proofs.samples.sample_z.Goals as goal
 
 pub returns : goal.returns

@@ -1,11 +1,7 @@
 -- `walk::samples::sampled` meets its contract: a fold.
-use Prim.Native.Nat.{suc, ◌≤◌, ◌-◌}
 use native.Mathlib.Omega.{arith}
-use mathlib.Core.Path.{◌≡◌}
-use Rattle.arith.specs.F64.{𝟘, ∞}
-use Rattle.section.specs.profile.Vertices.{vertex, on, hit, upto}
-use Rattle.walk.specs.Walk.{sample_z, sampled}
-use Rattle.walk.specs.Steps.{sample_at}
+use Rattle.section.specs.profile.Vertices.{upto}
+use Rattle.walk.specs.Walk.{sampled}
 use Rattle.section.proofs.profile.Fold.{upto_more, upto_end}
 use borrow.Author.Rules.{rules}
 use Rattle.walk.proofs.samples.sampled.Goals as goal

@@ -1,5 +1,5 @@
 -- `arith::roots::guess::guess` meets its contract.
-use Rattle.std.proofs.Common.{◌-◌, arith, rules}
+use Rattle.std.proofs.Common.{◌-◌, arith}
 use Rattle.arith.proofs.roots.Pattern.Special.{no_nan}
 use Rattle.arith.proofs.roots.guess.guess.Goals as goal
 

@@ -1,6 +1,5 @@
 -- `arith::roots::guess::guessed` meets its contract.
 use Rattle.arith.proofs.roots.Pattern.Special.{like_itself}
-use Rattle.std.proofs.Common.{rules}
 use Rattle.arith.proofs.roots.guess.guessed.Goals as goal
 
 pub float_to_bits-result : goal.float_to_bits-result

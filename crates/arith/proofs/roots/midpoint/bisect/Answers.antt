@@ -1,6 +1,6 @@
 -- `arith::roots::midpoint::bisect`. The invariant: the root lies between lo and hi, which lie within the two ends.
 use Rattle.std.proofs.Common.{◌≡◌, ℕ, ◌+◌, ◌-◌, ◌<◌, ◌≤◌, subst, arith, rules}
-use Rattle.arith.specs.roots.Steps.{whole, RoundsUp, Between}
+use Rattle.arith.specs.roots.Steps.{RoundsUp}
 use Rattle.arith.proofs.roots.midpoint.bisect.Goals as goal
 
 last : (z t lo hi : ℕ) → lo < hi → hi ≤ lo + 1 → RoundsUp z t lo → RoundsUp z t (hi - 1)

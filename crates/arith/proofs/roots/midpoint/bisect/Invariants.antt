@@ -1,6 +1,6 @@
 -- `arith::roots::midpoint::bisect`. The invariant: the root lies between lo and hi, which lie within the two ends.
-use Rattle.std.proofs.Common.{◌≡◌, ℕ, ◌+◌, ◌-◌, ◌<◌, ◌≤◌, subst, arith, rules}
-use Rattle.arith.specs.roots.Steps.{whole, RoundsUp, Between}
+use Rattle.std.proofs.Common.{◌-◌, ◌≤◌}
+use Rattle.arith.specs.roots.Steps.{whole, Between}
 use Rattle.arith.proofs.roots.midpoint.bisect.Given as goal
 
 abbrev pub invariant-loop-lo : goal.invariant-loop-lo

@@ -1,5 +1,5 @@
 -- `arith::roots::midpoint::rounds_up`. The midpoint is that of candidates below 2^53, or above it.
-use Rattle.std.proofs.Common.{ℕ, ◌+◌, ◌-◌, ◌*◌, ◌^◌, ◌<◌, ◌≤◌, arith, rules}
+use Rattle.std.proofs.Common.{ℕ, ◌+◌, ◌-◌, ◌*◌, ◌^◌, ◌<◌, ◌≤◌, arith}
 use Rattle.arith.specs.roots.Steps.{RoundsUpAt, RoundsDownAt, RoundsUp, RoundsDown}
 use Rattle.arith.proofs.roots.midpoint.rounds_up.Goals as goal
 

@@ -1,5 +1,5 @@
 -- `arith::roots::wide::below`. What a shift down and up again takes away.
-use Rattle.std.proofs.Common.{◌^◌, div-add-mod', div-mul-le_self, arith, rules}
+use Rattle.std.proofs.Common.{◌^◌, div-add-mod', div-mul-le_self, arith}
 use Rattle.arith.proofs.roots.wide.below.Goals as goal
 
 pub overflow_sub-result : goal.overflow_sub-result

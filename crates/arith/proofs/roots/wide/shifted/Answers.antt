@@ -1,5 +1,5 @@
 -- `arith::roots::wide::shifted`. The lower limb gets what the shift takes from the upper one.
-use Rattle.std.proofs.Common.{◌≡◌, ℕ, ◌+◌, ◌-◌, ◌*◌, ◌/◌, ◌%◌, ◌^◌, ◌<◌, ◌≤◌, sym, ap, ◌∙◌, mul_assoc, arith, pow_pos, pow-add, shr-shr, rules}
+use Rattle.std.proofs.Common.{◌≡◌, ℕ, ◌+◌, ◌-◌, ◌*◌, ◌/◌, ◌%◌, ◌^◌, ◌≤◌, sym, ap, ◌∙◌, mul_assoc, arith, pow_pos, pow-add, shr-shr, rules}
 use native.Mathlib.Nat.{mul-add-div_right}
 use lib.Pow.{shr_le, shl-shr, mod-mod-pow}
 use Rattle.arith.proofs.roots.wide.shifted.Goals as goal

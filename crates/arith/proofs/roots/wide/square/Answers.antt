@@ -1,5 +1,5 @@
 -- `arith::roots::wide::square`. The square of a number of two digits of 28 bits, each product below 2^56.
-use Rattle.std.proofs.Common.{ℕ, ◌*◌, ◌/◌, ◌%◌, ◌^◌, ◌<◌, arith, rules}
+use Rattle.std.proofs.Common.{ℕ, ◌*◌, ◌/◌, ◌%◌, ◌^◌, ◌<◌, arith}
 use Rattle.arith.proofs.roots.Halves.{digits, product}
 use Rattle.arith.proofs.roots.wide.square.Goals as goal
 

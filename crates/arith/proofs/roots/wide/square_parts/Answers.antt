@@ -1,5 +1,5 @@
 -- `arith::roots::wide::square_parts`. The square of a number of two digits of 28 bits, its three products as they are.
-use Rattle.std.proofs.Common.{ℕ, ◌*◌, ◌/◌, ◌%◌, ◌^◌, ◌<◌, arith, rules}
+use Rattle.std.proofs.Common.{ℕ, ◌/◌, ◌%◌, ◌^◌, ◌<◌, arith}
 use Rattle.arith.proofs.roots.Halves.{digits, product}
 use Rattle.arith.proofs.roots.wide.square_parts.Goals as goal
 

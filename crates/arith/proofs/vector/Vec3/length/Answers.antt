@@ -1,5 +1,4 @@
 -- `arith::Vec3::length` meets its contract: the magnitude of z, or hypot of hypot.
-use Rattle.std.proofs.Common.{rules}
 use lib.Ieee.{binary64, of_bits}
 use Rattle.arith.proofs.Laws.HypotZero.{norm_along_z}
 use Rattle.arith.proofs.Laws.OrderHeld.{true→T}

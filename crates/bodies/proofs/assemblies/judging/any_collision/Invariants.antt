@@ -1,11 +1,9 @@
 -- `bodies::assemblies::judging::any_collision` meets its contract: what is not yet judged decides for all.
 use Prim.Native.Nat.{◌≤◌, ◌-◌}
-use mathlib.Core.Path.{◌≡◌, sym, ◌∙◌}
+use mathlib.Core.Path.{◌≡◌}
 use lib.ListN.{length, drop, take}
-use borrow.Author.Rules.{rules}
 use Rattle.section.specs.profile.Refusals.{any_of}
 use Rattle.bodies.specs.assemblies.Steps.{own_collision}
-use Rattle.bodies.proofs.assemblies.Front.{found_later, found_here, found_never}
 use Rattle.bodies.proofs.assemblies.judging.any_collision.Given as goal
 
 abbrev pub invariant-loop-i : goal.invariant-loop-i

@@ -1,5 +1,4 @@
 -- `bodies::assemblies::judging::any_hit` meets its contract.
-use borrow.Author.Rules.{rules}
 use mathlib.Core.Path.{sym, ap, ◌∙◌}
 use Rattle.section.specs.profile.Replies.{value}
 use Rattle.bodies.proofs.assemblies.Answer.{by_before, by_body, by_verdicts}

@@ -1,5 +1,4 @@
 -- `bodies::assemblies::judging::own_collision` meets its contract.
-use borrow.Author.Rules.{rules}
 use Rattle.bodies.proofs.assemblies.judging.own_collision.Goals as goal
 
 pub returns-in-Clear : goal.returns-in-Clear

@@ -1,5 +1,4 @@
 -- `bodies::assemblies::refusal::before_bodies` meets its contract: a call with the clearance for its numbers, and 17 for the body's own.
-use borrow.Author.Rules.{rules}
 use mathlib.Core.List.{[]}
 use Rattle.section.specs.profile.Refusals.{given_tests, axis_tests}
 use Rattle.section.proofs.profile.Refusals.Ordered.{no_settings, own_after}

@@ -1,10 +1,5 @@
 -- `bodies::assemblies::refusal::bodies_refusal` meets its contract: what is not yet checked decides for all.
-use Prim.Native.Nat.{◌≤◌, ◌-◌}
-use mathlib.Core.List.{flat_map}
-use mathlib.Core.Path.{◌≡◌}
-use lib.ListN.{length, drop, take}
 use borrow.Author.Rules.{rules}
-use Rattle.section.specs.profile.Refusals.{refusal}
 use Rattle.bodies.specs.Bodies.{alone_tests}
 use Rattle.bodies.proofs.assemblies.Front.{refused_later, refused_here, refused_never}
 use Rattle.bodies.proofs.Alone.{own_numbered}

@@ -3,11 +3,8 @@ use Prim.Native.Nat.{◌≤◌, ◌-◌}
 use mathlib.Core.List.{flat_map}
 use mathlib.Core.Path.{◌≡◌}
 use lib.ListN.{length, drop, take}
-use borrow.Author.Rules.{rules}
 use Rattle.section.specs.profile.Refusals.{refusal}
 use Rattle.bodies.specs.Bodies.{alone_tests}
-use Rattle.bodies.proofs.assemblies.Front.{refused_later, refused_here, refused_never}
-use Rattle.bodies.proofs.Alone.{own_numbered}
 use Rattle.bodies.proofs.assemblies.refusal.bodies_refusal.Given as goal
 
 abbrev pub invariant-loop-i : goal.invariant-loop-i

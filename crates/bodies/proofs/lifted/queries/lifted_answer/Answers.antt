@@ -1,5 +1,4 @@
 -- `bodies::lifted::queries::lifted_answer` meets its contract: a hit is lifted, a number passed on.
-use borrow.Author.Rules.{rules}
 use Rattle.bodies.proofs.lifted.queries.lifted_answer.Goals as goal
 
 pub returns-in-Hit : goal.returns-in-Hit

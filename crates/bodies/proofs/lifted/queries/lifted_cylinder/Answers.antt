@@ -1,5 +1,4 @@
 -- `bodies::lifted::queries::lifted_cylinder` meets its contract: the plain answer's at the finest settings, lifted.
-use borrow.Author.Rules.{rules}
 use Rattle.bodies.proofs.lifted.Accepted.{cylinder_placed}
 use Rattle.bodies.proofs.lifted.queries.lifted_cylinder.Goals as goal
 

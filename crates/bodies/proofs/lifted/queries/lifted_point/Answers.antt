@@ -1,5 +1,4 @@
 -- `bodies::lifted::queries::lifted_point` meets its contract: the plain answer's, lifted.
-use borrow.Author.Rules.{rules}
 use Rattle.bodies.proofs.lifted.Accepted.{point_placed}
 use Rattle.bodies.proofs.lifted.queries.lifted_point.Goals as goal
 

@@ -1,5 +1,4 @@
 -- `bodies::lifted::queries::lifted_sphere` meets its contract: the plain answer's, lifted.
-use borrow.Author.Rules.{rules}
 use Rattle.bodies.proofs.lifted.Accepted.{sphere_placed}
 use Rattle.bodies.proofs.lifted.queries.lifted_sphere.Goals as goal
 

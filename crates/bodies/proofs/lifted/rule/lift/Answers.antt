@@ -1,5 +1,4 @@
 -- `bodies::lifted::rule::lift` meets its contract: the numbers of its own parameters are f64, and so the laws of them hold.
-use borrow.Author.Rules.{rules}
 use mathlib.Core.Path.{◌≡◌, sym, subst}
 use lib.Ieee.{Float}
 use Rattle.arith.specs.declared.vector.Vec3.{Vec3}

@@ -1,5 +1,4 @@
 -- `bodies::moves::placement::offset` meets its contract: a u32 as an f64 is exact.
-use borrow.Author.Rules.{rules}
 use mathlib.Core.Path.{refl}
 use Rattle.bodies.proofs.moves.placement.offset.Goals as goal
 

@@ -1,5 +1,4 @@
 -- `bodies::moves::placement::placed` meets its contract: by the kind of the body.
-use borrow.Author.Rules.{rules}
 use Rattle.bodies.proofs.moves.placement.placed.Goals as goal
 
 pub returns-in-Sphere : goal.returns-in-Sphere

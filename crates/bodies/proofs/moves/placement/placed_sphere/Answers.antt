@@ -1,5 +1,4 @@
 -- `bodies::moves::placement::placed_sphere` meets its contract.
-use borrow.Author.Rules.{rules}
 use Rattle.bodies.proofs.moves.placement.placed_sphere.Goals as goal
 
 pub returns : goal.returns

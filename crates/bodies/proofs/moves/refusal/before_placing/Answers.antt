@@ -1,5 +1,4 @@
 -- `bodies::moves::refusal::before_placing` meets its contract.
-use borrow.Author.Rules.{rules}
 use Rattle.bodies.proofs.moves.Given.{given_first, given_then_steps}
 use Rattle.bodies.proofs.moves.refusal.before_placing.Goals as goal
 

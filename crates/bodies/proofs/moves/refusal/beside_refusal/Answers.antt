@@ -1,5 +1,4 @@
 -- `bodies::moves::refusal::beside_refusal` meets its contract: by the kind of the body.
-use borrow.Author.Rules.{rules}
 use Rattle.bodies.proofs.moves.refusal.beside_refusal.Goals as goal
 
 pub cylinder_refusal-requires : goal.cylinder_refusal-requires

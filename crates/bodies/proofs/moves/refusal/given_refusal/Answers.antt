@@ -1,5 +1,4 @@
 -- `bodies::moves::refusal::given_refusal` meets its contract.
-use borrow.Author.Rules.{rules}
 use Rattle.walk.specs.settings.Settings.{settings_tests}
 use Rattle.bodies.proofs.moves.refusal.given_refusal.Goals as goal
 

@@ -1,5 +1,4 @@
 -- `bodies::pairs::pairs::nearer_of` meets its contract: by the case of each answer.
-use borrow.Author.Rules.{rules}
 use Rattle.bodies.proofs.pairs.pairs.nearer_of.Goals as goal
 
 pub returns-in-Refused : goal.returns-in-Refused

@@ -1,5 +1,4 @@
 -- `bodies::pairs::pairs::nearer_section` meets its contract.
-use borrow.Author.Rules.{rules}
 use mathlib.Core.List.{[]}
 use mathlib.Core.Path.{◌∙◌, ap}
 use Rattle.bodies.specs.pairs.Pairs.{handed_back}

@@ -1,6 +1,5 @@
 -- `bodies::pairs::pairs::query_pair_convex` meets its contract: the first number in the order, or the nearer of two values, since both
 -- queries pass.
-use borrow.Author.Rules.{rules}
 use mathlib.Core.Path.{sym, ◌∙◌}
 use Rattle.section.specs.profile.Refusals.{list_tests}
 use Rattle.section.proofs.profile.Replies.{refused}

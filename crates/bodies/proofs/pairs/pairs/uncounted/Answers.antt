@@ -1,5 +1,4 @@
 -- `bodies::pairs::pairs::uncounted` meets its contract: by the case of the answer.
-use borrow.Author.Rules.{rules}
 use Rattle.bodies.proofs.pairs.pairs.uncounted.Goals as goal
 
 pub returns-in-Refused : goal.returns-in-Refused

@@ -1,5 +1,4 @@
 -- `bodies::pairs::pairs::winner` meets its contract: by the case of the answer.
-use borrow.Author.Rules.{rules}
 use Rattle.bodies.proofs.pairs.pairs.winner.Goals as goal
 
 pub returns-in-Chuck : goal.returns-in-Chuck

@@ -1,6 +1,5 @@
 -- `bodies::pairs::refusal::pair_refusal` meets its contract.
 use borrow.Author.Tests.{eq-eqb, ne_eqb}
-use borrow.Author.Rules.{rules}
 use Rattle.bodies.proofs.pairs.refusal.pair_refusal.Goals as goal
 
 pub returns-then-of_chuck-ne0 : goal.returns-then-of_chuck-ne0

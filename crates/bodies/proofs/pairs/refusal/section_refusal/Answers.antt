@@ -1,5 +1,4 @@
 -- `bodies::pairs::refusal::section_refusal` meets its contract.
-use borrow.Author.Rules.{rules}
 use mathlib.Core.Path.{◌∙◌}
 use Rattle.section.specs.profile.Refusals.{axis_tests}
 use Rattle.section.proofs.profile.Refusals.Ordered.{by_first, by_rest, or_else_none}

@@ -1,5 +1,4 @@
 -- `bodies::trials::report::first_collision` meets its contract.
-use borrow.Author.Rules.{rules}
 use Rattle.bodies.proofs.moves.Fields.{colliding_now, clear_now}
 use Rattle.bodies.proofs.trials.report.first_collision.Goals as goal
 

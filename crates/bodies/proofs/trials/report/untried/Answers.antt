@@ -1,5 +1,4 @@
 -- `bodies::trials::report::untried` meets its contract.
-use borrow.Author.Rules.{rules}
 use Rattle.bodies.proofs.trials.report.untried.Goals as goal
 
 pub returns : goal.returns

@@ -1,5 +1,4 @@
 -- `bodies::trials::report::with_step` meets its contract; the boxes fit by its demand.
-use borrow.Author.Rules.{rules}
 use Rattle.bodies.proofs.trials.report.with_step.Goals as goal
 
 pub returns : goal.returns

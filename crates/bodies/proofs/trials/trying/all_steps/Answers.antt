@@ -1,10 +1,9 @@
 -- `bodies::trials::trying::all_steps` meets its contract: a fold over the steps that the first refused one leaves.
-use Prim.Native.Nat.{ℕ, suc, ◌-◌, ◌<◌, ◌≤◌}
+use Prim.Native.Nat.{ℕ, ◌<◌, ◌≤◌}
 use native.Mathlib.Omega.{arith}
 use mathlib.Core.Path.{◌≡◌, ap, refl}
-use borrow.Author.Rules.{rules}
 use Rattle.walk.specs.cylinders.Cylinders.{told}
-use Rattle.bodies.proofs.moves.Turns.{SoFar, start, ended, few_steps, step_refused, step_fits, step_more}
+use Rattle.bodies.proofs.moves.Turns.{start, ended, few_steps, step_refused, step_fits, step_more}
 use Rattle.bodies.proofs.trials.trying.all_steps.Goals as goal
 
 at_most : {i n m : ℕ} → n ≡ m → i ≤ n → i ≤ m

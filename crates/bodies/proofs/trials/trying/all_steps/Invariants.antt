@@ -1,10 +1,7 @@
 -- `bodies::trials::trying::all_steps` meets its contract: a fold over the steps that the first refused one leaves.
-use Prim.Native.Nat.{ℕ, suc, ◌-◌, ◌<◌, ◌≤◌}
-use native.Mathlib.Omega.{arith}
-use mathlib.Core.Path.{◌≡◌, ap, refl}
-use borrow.Author.Rules.{rules}
-use Rattle.walk.specs.cylinders.Cylinders.{told}
-use Rattle.bodies.proofs.moves.Turns.{SoFar, start, ended, few_steps, step_refused, step_fits, step_more}
+use Prim.Native.Nat.{suc, ◌-◌}
+use mathlib.Core.Path.{◌≡◌}
+use Rattle.bodies.proofs.moves.Turns.{SoFar}
 use Rattle.bodies.proofs.trials.trying.all_steps.Given as goal
 
 abbrev pub invariant-loop-i : goal.invariant-loop-i

@@ -1,5 +1,4 @@
 -- `bodies::trials::trying::try_move` meets its contract: a number before the placements, or what the steps give.
-use borrow.Author.Rules.{rules}
 use mathlib.Core.Path.{sym, ◌∙◌}
 use Rattle.bodies.proofs.moves.Turns.{before_refused}
 use Rattle.bodies.proofs.trials.trying.try_move.Goals as goal

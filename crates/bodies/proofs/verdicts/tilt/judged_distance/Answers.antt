@@ -1,5 +1,4 @@
 -- `bodies::verdicts::tilt::judged_distance` meets its contract: by the kind.
-use borrow.Author.Rules.{rules}
 use Rattle.bodies.proofs.verdicts.tilt.judged_distance.Goals as goal
 
 pub returns-in-Cylinder : goal.returns-in-Cylinder

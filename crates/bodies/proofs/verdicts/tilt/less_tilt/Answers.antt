@@ -1,5 +1,4 @@
 -- `bodies::verdicts::tilt::less_tilt` meets its contract.
-use borrow.Author.Rules.{rules}
 use Rattle.bodies.proofs.verdicts.tilt.less_tilt.Goals as goal
 
 pub returns : goal.returns

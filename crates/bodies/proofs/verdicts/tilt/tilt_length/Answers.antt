@@ -1,5 +1,4 @@
 -- `bodies::verdicts::tilt::tilt_length` meets its contract: by the axis.
-use borrow.Author.Rules.{rules}
 use Rattle.bodies.proofs.verdicts.tilt.tilt_length.Goals as goal
 
 pub returns-in-Axial : goal.returns-in-Axial

@@ -1,5 +1,4 @@
 -- `bodies::verdicts::verdicts::judged` meets its contract.
-use borrow.Author.Rules.{rules}
 use mathlib.Core.Path.{ap, sym, ◌∙◌}
 use Rattle.section.specs.profile.Replies.{value}
 use Rattle.bodies.proofs.verdicts.verdicts.judged.Goals as goal

@@ -1,5 +1,4 @@
 -- `bodies::verdicts::verdicts::verdict_body` meets its contract.
-use borrow.Author.Rules.{rules}
 use Rattle.bodies.proofs.verdicts.verdicts.verdict_body.Goals as goal
 
 pub returns-in-Sphere : goal.returns-in-Sphere

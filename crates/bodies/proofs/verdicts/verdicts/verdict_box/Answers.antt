@@ -1,5 +1,4 @@
 -- `bodies::verdicts::verdicts::verdict_box` meets its contract.
-use borrow.Author.Rules.{rules}
 use mathlib.Core.List.{[], ◌++◌}
 use mathlib.Core.Path.{sym, ◌∙◌}
 use Rattle.section.specs.profile.Refusals.{axis_tests, bounds_tests}

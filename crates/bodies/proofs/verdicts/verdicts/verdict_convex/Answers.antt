@@ -1,5 +1,4 @@
 -- `bodies::verdicts::verdicts::verdict_convex` meets its contract.
-use borrow.Author.Rules.{rules}
 use mathlib.Core.Path.{sym, ◌∙◌}
 use Rattle.section.specs.profile.Refusals.{axis_tests}
 use Rattle.section.proofs.profile.Refusals.Passed.{convex_long}

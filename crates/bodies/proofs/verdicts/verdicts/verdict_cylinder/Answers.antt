@@ -1,5 +1,4 @@
 -- `bodies::verdicts::verdicts::verdict_cylinder` meets its contract.
-use borrow.Author.Rules.{rules}
 use mathlib.Core.List.{[]}
 use Rattle.walk.proofs.cylinders.Given.{finest_measurable}
 use Rattle.section.proofs.profile.Refusals.Ordered.{no_settings}

@@ -1,5 +1,4 @@
 -- `bodies::walk_verdicts::judging::judged_walk` meets its contract, field by field.
-use borrow.Author.Rules.{rules}
 use Rattle.bodies.proofs.walk_verdicts.judging.judged_walk.Goals as goal
 
 pub returns : goal.returns

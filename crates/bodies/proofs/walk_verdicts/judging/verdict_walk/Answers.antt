@@ -1,5 +1,4 @@
 -- `bodies::walk_verdicts::judging::verdict_walk` meets its contract: the number, or what is told of the hit; few boxes by its walk's cover.
-use borrow.Author.Rules.{rules}
 use mathlib.Core.List.{[]}
 use Rattle.walk.proofs.cylinders.Given.{finest_measurable}
 use Rattle.section.proofs.profile.Refusals.Ordered.{no_settings}

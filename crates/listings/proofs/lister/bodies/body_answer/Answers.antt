@@ -1,7 +1,6 @@
 -- `listings::lister::bodies::body_answer`: by the kind.
 use borrow.Author.Tests.{eq-eqb, ne_eqb}
 use Rattle.listings.specs.store_listing.Listing.{body_answer}
-use borrow.Author.Rules.{rules}
 use Rattle.listings.proofs.lister.bodies.body_answer.Goals as goal
 
 pub returns-then-kind_of-eq2 : goal.returns-then-kind_of-eq2

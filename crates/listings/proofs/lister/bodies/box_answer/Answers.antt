@@ -1,5 +1,4 @@
 -- `listings::lister::bodies::box_answer`: the query of the body that its four numbers make.
-use borrow.Author.Rules.{rules}
 use Rattle.listings.proofs.lister.bodies.box_answer.Goals as goal
 
 pub returns : goal.returns

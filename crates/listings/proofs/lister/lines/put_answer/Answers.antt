@@ -4,7 +4,6 @@ use lib.ListN.{length-append}
 use Rattle.listings.specs.store_listing.Text.{text}
 use Rattle.listings.proofs.store_listing.Pieces.{hit_room, refused_room}
 use Rattle.listings.proofs.store_listing.Writing.{then}
-use borrow.Author.Rules.{rules}
 use Rattle.listings.proofs.lister.lines.put_answer.Goals as goal
 
 pub put_hit-requires : goal.put_hit-requires

@@ -4,7 +4,6 @@ use lib.ListN.{length-append}
 use Rattle.listings.specs.store_listing.Text.{text}
 use Rattle.listings.proofs.store_listing.Pieces.{line_of}
 use Rattle.listings.proofs.store_listing.Writing.{then}
-use borrow.Author.Rules.{rules}
 use Rattle.listings.proofs.lister.lines.put_body_line.Goals as goal
 
 pub put_decimal-a-requires : goal.put_decimal-a-requires

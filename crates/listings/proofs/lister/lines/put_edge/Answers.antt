@@ -4,7 +4,6 @@ use Rattle.listings.specs.store_listing.Text.{text}
 use Rattle.listings.specs.store_listing.Listing.{edge_text}
 use Rattle.listings.proofs.store_listing.Pieces.{length_edge}
 use Rattle.listings.proofs.store_listing.Writing.{then}
-use borrow.Author.Rules.{rules}
 use Rattle.listings.proofs.lister.lines.put_edge.Goals as goal
 
 pub put_word-a-requires : goal.put_word-a-requires

@@ -2,7 +2,6 @@
 use Rattle.listings.specs.store_listing.Text.{text}
 use Rattle.listings.specs.store_listing.Listing.{field_text}
 use Rattle.listings.proofs.store_listing.Writing.{then}
-use borrow.Author.Rules.{rules}
 use Rattle.listings.proofs.lister.lines.put_field.Goals as goal
 
 pub returns : goal.returns

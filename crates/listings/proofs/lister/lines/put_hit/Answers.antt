@@ -3,7 +3,6 @@ use native.Mathlib.Omega.{arith}
 use Rattle.listings.specs.store_listing.Listing.{hit_text}
 use Rattle.listings.proofs.store_listing.Pieces.{length_edge, length_field, length_hit}
 use Rattle.listings.proofs.store_listing.Writing.{then}
-use borrow.Author.Rules.{rules}
 use Rattle.listings.proofs.lister.lines.put_hit.Goals as goal
 
 pub put_field-a-requires : goal.put_field-a-requires

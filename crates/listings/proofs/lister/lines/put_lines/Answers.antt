@@ -1,11 +1,7 @@
 -- `listings::lister::lines::put_lines`. One record has its line in a turn.
-use Prim.Native.Nat.{◌-◌, ◌≤◌}
 use mathlib.Core.List.{flat_map}
-use mathlib.Core.Path.{◌≡◌, refl}
-use lib.ListN.{length, take}
+use mathlib.Core.Path.{refl}
 use lib.Seq.{take_all}
-use Rattle.listings.specs.store_listing.Listing.{record_line}
-use Rattle.listings.specs.store_listing.Steps.{Written}
 use Rattle.listings.proofs.store_listing.Pieces.{line_room, line_more}
 use Rattle.listings.proofs.store_listing.Writing.{nothing_written}
 use borrow.Author.Rules.{rules}

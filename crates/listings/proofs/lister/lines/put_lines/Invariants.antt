@@ -1,14 +1,10 @@
 -- `listings::lister::lines::put_lines`. One record has its line in a turn.
 use Prim.Native.Nat.{◌-◌, ◌≤◌}
 use mathlib.Core.List.{flat_map}
-use mathlib.Core.Path.{◌≡◌, refl}
+use mathlib.Core.Path.{◌≡◌}
 use lib.ListN.{length, take}
-use lib.Seq.{take_all}
 use Rattle.listings.specs.store_listing.Listing.{record_line}
 use Rattle.listings.specs.store_listing.Steps.{Written}
-use Rattle.listings.proofs.store_listing.Pieces.{line_room, line_more}
-use Rattle.listings.proofs.store_listing.Writing.{nothing_written}
-use borrow.Author.Rules.{rules}
 use Rattle.listings.proofs.lister.lines.put_lines.Given as goal
 
 abbrev pub invariant-loop-i : goal.invariant-loop-i

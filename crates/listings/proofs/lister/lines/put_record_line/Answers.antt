@@ -1,8 +1,6 @@
 -- `listings::lister::lines::put_record_line` meets its contract.
-use mathlib.Core.Bool.{or-true}
 use borrow.Author.Tests.{eq-eqb, ne_eqb}
 use Rattle.listings.proofs.store_listing.Writing.{nothing_written}
-use borrow.Author.Rules.{rules}
 use Rattle.listings.proofs.lister.lines.put_record_line.Goals as goal
 
 pub put_body_line-requires : goal.put_body_line-requires

@@ -4,7 +4,6 @@ use lib.ListN.{length-append}
 use Rattle.listings.specs.store_listing.Text.{text}
 use Rattle.listings.specs.store_listing.Listing.{section_line}
 use Rattle.listings.proofs.store_listing.Writing.{then}
-use borrow.Author.Rules.{rules}
 use Rattle.listings.proofs.lister.lines.put_section_line.Goals as goal
 
 pub put_word-a-requires : goal.put_word-a-requires

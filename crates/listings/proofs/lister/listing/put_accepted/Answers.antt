@@ -3,7 +3,6 @@ use native.Mathlib.Omega.{arith}
 use lib.ListN.{length-append}
 use Rattle.listings.specs.store_listing.Listing.{accepted_text}
 use Rattle.listings.proofs.store_listing.Writing.{then}
-use borrow.Author.Rules.{rules}
 use Rattle.listings.proofs.lister.listing.put_accepted.Goals as goal
 
 pub put_section_line-from-requires : goal.put_section_line-from-requires

@@ -1,5 +1,5 @@
 -- `listings::store_listing::text::put_decimal` meets its contract: all digits but the last, then the last.
-use Rattle.std.proofs.Common.{rules, arith}
+use Rattle.std.proofs.Common.{arith}
 use Rattle.listings.proofs.store_listing.Digits.{decimal_one, decimal_step, room_one, room_rest, room_last}
 use Rattle.listings.proofs.store_listing.Writing.{then}
 use Rattle.listings.proofs.store_listing.text.+put_decimal.Goals as goal

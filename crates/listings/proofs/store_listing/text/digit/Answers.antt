@@ -1,6 +1,5 @@
 -- `listings::store_listing::text::digit` meets its contract.
 use borrow.Author.Tests.{lt-ltb, le-ltb}
-use borrow.Author.Rules.{rules}
 use Rattle.listings.proofs.store_listing.text.digit.Goals as goal
 
 pub returns-then-d-lt10 : goal.returns-then-d-lt10

@@ -1,6 +1,5 @@
 -- `listings::store_listing::text::put_bits` meets its contract.
 use Rattle.listings.specs.store_listing.Text.{bits}
-use borrow.Author.Rules.{rules}
 use Rattle.listings.proofs.store_listing.text.put_bits.Goals as goal
 
 pub returns : goal.returns

@@ -1,8 +1,6 @@
 -- `listings::store_listing::text::put_word`. One byte goes in a turn.
-use Prim.Native.Nat.{◌+◌, ◌-◌, ◌≤◌}
-use mathlib.Core.Path.{◌≡◌, refl}
-use lib.ListN.{length, take, length-set}
-use Rattle.listings.specs.store_listing.Steps.{Written}
+use mathlib.Core.Path.{refl}
+use lib.ListN.{length-set}
 use Rattle.listings.proofs.store_listing.Writing.{word_more, word_all}
 use borrow.Author.Rules.{rules}
 use Rattle.listings.proofs.store_listing.text.put_word.Goals as goal

@@ -1,10 +1,8 @@
 -- `listings::store_listing::text::put_word`. One byte goes in a turn.
 use Prim.Native.Nat.{◌+◌, ◌-◌, ◌≤◌}
-use mathlib.Core.Path.{◌≡◌, refl}
-use lib.ListN.{length, take, length-set}
+use mathlib.Core.Path.{◌≡◌}
+use lib.ListN.{length, take}
 use Rattle.listings.specs.store_listing.Steps.{Written}
-use Rattle.listings.proofs.store_listing.Writing.{word_more, word_all}
-use borrow.Author.Rules.{rules}
 use Rattle.listings.proofs.store_listing.text.put_word.Given as goal
 
 abbrev pub invariant-loop-i : goal.invariant-loop-i

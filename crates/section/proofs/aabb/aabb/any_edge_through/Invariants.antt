@@ -1,12 +1,9 @@
 -- `section::aabb::aabb::any_edge_through` meets its contract: a search, nothing found so far.
 use Prim.Native.Nat.{◌≤◌, ◌-◌}
-use native.Mathlib.Omega.{arith}
 use mathlib.Core.Bool.{false}
-use mathlib.Core.Path.{◌≡◌, refl}
-use borrow.Author.Rules.{rules}
+use mathlib.Core.Path.{◌≡◌}
 use Rattle.section.specs.profile.Vertices.{vertex_at, end_at, any}
 use Rattle.section.specs.boxes.Boxes.{segment_through_interior}
-use Rattle.section.proofs.profile.Fold.{any_more, any_end, any_at}
 use Rattle.section.proofs.aabb.aabb.any_edge_through.Given as goal
 
 abbrev pub invariant-loop-k : goal.invariant-loop-k

@@ -1,11 +1,8 @@
 -- `section::aabb::aabb::any_vertex_inside` meets its contract: a search, nothing found so far.
-use Prim.Native.Nat.{◌≤◌, ◌-◌}
 use native.Mathlib.Omega.{arith}
-use mathlib.Core.Bool.{false}
-use mathlib.Core.Path.{◌≡◌, refl}
+use mathlib.Core.Path.{refl}
 use borrow.Author.Rules.{rules}
-use Rattle.section.specs.profile.Vertices.{vertex_at, any}
-use Rattle.section.specs.boxes.Boxes.{strictly_inside_aabb}
+use Rattle.section.specs.profile.Vertices.{any}
 use Rattle.section.proofs.profile.Fold.{any_more, any_end, any_at}
 use Rattle.section.proofs.aabb.aabb.any_vertex_inside.Goals as goal
 

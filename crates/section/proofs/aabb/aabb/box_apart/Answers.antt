@@ -1,5 +1,4 @@
 -- `section::aabb::aabb::box_apart` meets its contract.
-use borrow.Author.Rules.{rules}
 use Rattle.section.specs.boxes.Steps.{box_apart}
 use Rattle.section.proofs.aabb.aabb.box_apart.Goals as goal
 

@@ -1,5 +1,4 @@
 -- `section::aabb::aabb::box_distance` meets its contract.
-use borrow.Author.Rules.{rules}
 use Rattle.section.proofs.aabb.aabb.box_distance.Goals as goal
 
 pub returns : goal.returns

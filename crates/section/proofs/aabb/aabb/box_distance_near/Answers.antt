@@ -2,7 +2,6 @@
 use mathlib.Core.Bool.{true}
 use mathlib.Core.Path.{◌≡◌, subst, sym, ◌∙◌}
 use lib.Ieee.{neg}
-use borrow.Author.Rules.{rules}
 use Rattle.arith.specs.F64.{◌≺◌, e_9}
 use Rattle.section.specs.declared.profile.shapes.CollisionHit.{CollisionHit}
 use Rattle.section.proofs.boxes.Unread.{box_apart_lem, box_deep, box_within}

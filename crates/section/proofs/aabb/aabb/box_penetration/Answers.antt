@@ -1,5 +1,4 @@
 -- `section::aabb::aabb::box_penetration` meets its contract: the even-odd rule of the five probes is told in one pass.
-use mathlib.Core.Path.{◌≡◌}
 use Rattle.section.specs.profile.Vertices.{upto}
 use Rattle.section.specs.points.Points.{point_inside}
 use Rattle.section.proofs.probes.Parity.{all_outside}

@@ -1,12 +1,9 @@
 -- `section::aabb::aabb::box_witness` meets its contract: a fold.
 use Prim.Native.Nat.{◌≤◌, ◌-◌}
-use native.Mathlib.Omega.{arith}
 use mathlib.Core.Bool.{cond}
-use mathlib.Core.Path.{◌≡◌, refl}
-use borrow.Author.Rules.{rules}
+use mathlib.Core.Path.{◌≡◌}
 use Rattle.section.specs.profile.Vertices.{on, vertex_at, upto}
-use Rattle.section.specs.boxes.Boxes.{strictly_inside_aabb, box_witness}
-use Rattle.section.proofs.profile.Fold.{upto_more, upto_end}
+use Rattle.section.specs.boxes.Boxes.{strictly_inside_aabb}
 use Rattle.section.proofs.aabb.aabb.box_witness.Given as goal
 
 abbrev pub invariant-loop-k : goal.invariant-loop-k

@@ -1,5 +1,4 @@
 -- `section::aabb::aabb::edge_through` meets its contract.
-use borrow.Author.Rules.{rules}
 use Rattle.section.proofs.aabb.aabb.edge_through.Goals as goal
 
 pub returns : goal.returns

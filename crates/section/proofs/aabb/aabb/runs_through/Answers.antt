@@ -2,7 +2,6 @@
 use mathlib.Core.Bool.{true}
 use mathlib.Core.Path.{◌≡◌, subst, sym}
 use lib.Ieee.{Float}
-use borrow.Author.Rules.{rules}
 use Rattle.arith.specs.F64.{◌≺◌, 𝟘}
 use Rattle.section.proofs.boxes.Unread.{apart}
 use Rattle.section.proofs.aabb.aabb.runs_through.Goals as goal

@@ -1,6 +1,5 @@
 -- `section::aabb::aabb::segment_through_interior` meets its contract.
 use Rattle.section.specs.boxes.Boxes.{segment_through_interior}
-use borrow.Author.Rules.{rules}
 use Rattle.section.proofs.aabb.aabb.segment_through_interior.Goals as goal
 
 pub returns-then-any : goal.returns-then-any

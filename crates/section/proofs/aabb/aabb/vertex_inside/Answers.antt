@@ -1,5 +1,4 @@
 -- `section::aabb::aabb::vertex_inside` meets its contract.
-use borrow.Author.Rules.{rules}
 use Rattle.section.proofs.aabb.aabb.vertex_inside.Goals as goal
 
 pub returns : goal.returns

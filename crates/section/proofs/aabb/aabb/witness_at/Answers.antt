@@ -1,5 +1,4 @@
 -- `section::aabb::aabb::witness_at` meets its contract.
-use borrow.Author.Rules.{rules}
 use Rattle.section.proofs.aabb.aabb.witness_at.Goals as goal
 
 pub returns-then-strictly_inside_aabb : goal.returns-then-strictly_inside_aabb

@@ -1,5 +1,4 @@
 -- `section::boxes::gap::box_gap` meets its contract: a search that starts over what it meets anyway finds the same.
-use mathlib.Core.Path.{◌≡◌}
 use Rattle.section.proofs.ranges.Nearest.{met_first}
 use Rattle.section.specs.boxes.Boxes.{box_gap}
 use Rattle.section.proofs.boxes.Held.{edge_held}

@@ -1,6 +1,4 @@
 -- `section::boxes::gap::entered` meets its contract.
-use mathlib.Core.Path.{◌≡◌}
-use borrow.Author.Rules.{rules}
 use Rattle.section.proofs.boxes.gap.entered.Goals as goal
 
 pub returns : goal.returns

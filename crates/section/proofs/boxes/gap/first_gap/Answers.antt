@@ -1,10 +1,9 @@
 -- `section::boxes::gap::first_gap` meets its contract: that of `segment_aabb_distance`, from nothing on.
-use mathlib.Core.Path.{◌≡◌, ◌∙◌}
+use mathlib.Core.Path.{◌∙◌}
 use Rattle.arith.proofs.Laws.OrderHeld.{true→T}
 use Rattle.section.proofs.segments.Held.{segments_held}
 use Rattle.section.proofs.ranges.Nearest.{nearest_from}
 use Rattle.section.specs.boxes.Boxes.{edge_box}
-use borrow.Author.Rules.{rules}
 use Rattle.section.proofs.boxes.gap.first_gap.Goals as goal
 
 pub nearer_near-requires : goal.nearer_near-requires

@@ -1,6 +1,4 @@
 -- `section::boxes::gap::gap_at` meets its contract.
-use mathlib.Core.Path.{◌≡◌}
-use borrow.Author.Rules.{rules}
 use Rattle.section.proofs.boxes.gap.gap_at.Goals as goal
 
 pub segment_aabb_distance-requires : goal.segment_aabb_distance-requires

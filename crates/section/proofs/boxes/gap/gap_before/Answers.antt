@@ -1,5 +1,4 @@
 -- `section::boxes::gap::gap_before` meets its contract: before edge 0 there is nothing to find.
-use mathlib.Core.Path.{◌≡◌}
 use native.Mathlib.Omega.{arith}
 use borrow.Author.Rules.{rules}
 use Rattle.section.proofs.profile.Fold.{upto_end}

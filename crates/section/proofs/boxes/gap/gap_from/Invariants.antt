@@ -1,8 +1,5 @@
 -- `section::boxes::gap::gap_from` meets its contract: a fold, from whatever start.
 use Prim.Native.Nat.{◌≤◌, ◌-◌}
-use native.Mathlib.Omega.{arith}
-use borrow.Author.Rules.{rules}
-use Rattle.section.proofs.profile.Fold.{upto_more, upto_end}
 use Rattle.section.specs.segments.Legs.{Legs}
 use Rattle.section.specs.boxes.Steps.{GapFrom}
 use Rattle.section.proofs.boxes.gap.gap_from.Given as goal

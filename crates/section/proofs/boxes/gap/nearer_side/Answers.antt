@@ -1,8 +1,6 @@
 -- `section::boxes::gap::nearer_side` meets its contract.
-use mathlib.Core.Path.{◌≡◌}
 use Rattle.section.proofs.ranges.Apart.{gap_plus}
 use Rattle.section.proofs.boxes.Passed.{side_passed}
-use borrow.Author.Rules.{rules}
 use Rattle.section.proofs.boxes.gap.nearer_side.Goals as goal
 
 pub hopeless-requires : goal.hopeless-requires

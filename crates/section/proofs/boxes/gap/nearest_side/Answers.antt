@@ -1,5 +1,4 @@
 -- `section::boxes::gap::nearest_side` meets its contract.
-use mathlib.Core.Path.{◌≡◌}
 use Rattle.section.specs.profile.Vertices.{upto}
 use Rattle.section.proofs.boxes.Passed.{first_side, high_side, last_side, low_side}
 use Rattle.section.proofs.boxes.gap.nearest_side.Goals as goal

@@ -1,11 +1,10 @@
 -- `section::boxes::gap::passed_along_z` meets its contract: as far along z as the best, and no clip is left.
-use mathlib.Core.Path.{◌≡◌, refl, sym, ◌∙◌}
+use mathlib.Core.Path.{refl, sym, ◌∙◌}
 use Rattle.arith.proofs.Laws.OrderHeld.{true→T}
 use Rattle.section.proofs.ranges.Apart.{gap_held}
 use Rattle.section.proofs.ranges.Missed.{missed_z}
 use Rattle.section.proofs.segments.Legs.{hopeless_z}
 use Rattle.section.proofs.boxes.Passed.{passed}
-use borrow.Author.Rules.{rules}
 use Rattle.section.proofs.boxes.gap.passed_along_z.Goals as goal
 
 pub returns-then-z-best : goal.returns-then-z-best

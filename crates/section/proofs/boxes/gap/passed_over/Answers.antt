@@ -1,9 +1,8 @@
 -- `section::boxes::gap::passed_over` meets its contract: z tells, or its legs are hopeless, and no clip is left.
-use mathlib.Core.Path.{◌≡◌, refl}
+use mathlib.Core.Path.{refl}
 use Rattle.arith.proofs.Laws.OrderHeld.{true→T}
 use Rattle.section.proofs.ranges.Apart.{gap_plus}
 use Rattle.section.proofs.boxes.Passed.{passed}
-use borrow.Author.Rules.{rules}
 use Rattle.section.proofs.boxes.gap.passed_over.Goals as goal
 
 pub passed_along_z-requires : goal.passed_along_z-requires

@@ -1,12 +1,9 @@
 -- `section::boxes::gap::segment_aabb_distance` meets its contract: the sides are sought from the best on.
-use mathlib.Core.Path.{◌≡◌, ap, subst, ◌∙◌}
+use mathlib.Core.Path.{◌∙◌}
 use Rattle.arith.proofs.Laws.OrderHeld.{true→T}
-use Rattle.section.specs.profile.Vertices.{nearer}
-use Rattle.section.specs.declared.profile.shapes.CollisionHit.{CollisionHit}
 use Rattle.section.proofs.segments.Held.{segments_held}
 use Rattle.section.proofs.ranges.Nearest.{nearest_from}
 use Rattle.section.specs.boxes.Boxes.{edge_box}
-use borrow.Author.Rules.{rules}
 use Rattle.section.proofs.boxes.gap.segment_aabb_distance.Goals as goal
 
 pub nearer_near-requires : goal.nearer_near-requires

@@ -1,7 +1,6 @@
 -- `section::builders::builder::check_polygon` meets its contract.
 use native.Mathlib.Omega.{arith}
 use mathlib.Core.Path.{sym, ◌∙◌}
-use borrow.Author.Rules.{rules}
 use Rattle.section.proofs.builders.Builders.Closing.{polygon_most}
 use Rattle.section.proofs.builders.Builders.Accepted.{polygon_listed, polygon_below, polygon_small, polygon_counted}
 use Rattle.section.proofs.profile.Refusals.Passed.{list_counted}

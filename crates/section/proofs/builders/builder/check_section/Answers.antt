@@ -1,7 +1,6 @@
 -- `section::builders::builder::check_section` meets its contract.
 use native.Mathlib.Omega.{arith}
 use mathlib.Core.Path.{sym, ◌∙◌}
-use borrow.Author.Rules.{rules}
 use Rattle.section.proofs.builders.Builders.Closing.{section_most}
 use Rattle.section.proofs.builders.Builders.Accepted.{section_listed, section_below, section_small, section_counted}
 use Rattle.section.proofs.profile.Refusals.Passed.{list_counted}

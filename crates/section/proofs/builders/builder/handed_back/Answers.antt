@@ -1,5 +1,4 @@
 -- `section::builders::builder::handed_back` meets its contract: by the case of the answer.
-use borrow.Author.Rules.{rules}
 use Rattle.section.proofs.builders.builder.handed_back.Goals as goal
 
 pub returns-in-Numbers : goal.returns-in-Numbers

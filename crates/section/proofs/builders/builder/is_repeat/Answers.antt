@@ -1,5 +1,4 @@
 -- `section::builders::builder::is_repeat` meets its contract.
-use borrow.Author.Rules.{rules}
 use borrow.Author.Tests.{lt-ltb, le-ltb}
 use Rattle.section.proofs.builders.builder.is_repeat.Goals as goal
 

@@ -1,5 +1,4 @@
 -- `section::builders::builder::point_at` meets its contract.
-use borrow.Author.Rules.{rules}
 use Rattle.section.proofs.builders.builder.point_at.Goals as goal
 
 pub returns : goal.returns

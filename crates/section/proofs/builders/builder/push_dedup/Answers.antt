@@ -1,6 +1,5 @@
 -- `section::builders::builder::push_dedup` meets its contract.
 use Rattle.section.specs.builders.Steps.{pushed, pushed_space}
-use borrow.Author.Rules.{rules}
 use Rattle.section.proofs.builders.builder.push_dedup.Goals as goal
 
 pub returns-then-is_repeat : goal.returns-then-is_repeat

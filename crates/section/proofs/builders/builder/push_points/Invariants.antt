@@ -1,13 +1,8 @@
 -- `section::builders::builder::push_points` meets its contract: after k points, run and space are those of what is kept of them.
 use Prim.Native.Nat.{◌≤◌, ◌-◌}
-use native.Mathlib.Omega.{arith}
-use mathlib.Core.Path.{◌≡◌, refl}
-use lib.Seq.{take-nil}
-use borrow.Author.Rules.{rules}
-use Rattle.section.specs.profile.Vertices.{count, upto}
-use Rattle.section.specs.builders.Builder.{kept_points, filled}
+use mathlib.Core.Path.{◌≡◌}
+use Rattle.section.specs.builders.Builder.{kept_points}
 use Rattle.section.specs.builders.Steps.{run_of, front_kept}
-use Rattle.section.proofs.builders.Builders.Points.{count_most, same_long, run_turned, space_turned}
 use Rattle.section.proofs.builders.builder.push_points.Given as goal
 
 abbrev pub invariant-loop-k : goal.invariant-loop-k

@@ -1,12 +1,10 @@
 -- `section::builders::builder::push_polygon` meets its contract.
 use native.Mathlib.Omega.{arith}
 use mathlib.Core.Path.{◌∙◌}
-use borrow.Author.Rules.{rules}
 use borrow.Author.Tests.{lt-ltb, le-ltb}
 use Rattle.section.proofs.builders.Builders.Closing.{polygon_count, polygon_space}
 use native.Mathlib.Omega.{arith}
 use mathlib.Core.Path.{◌∙◌}
-use borrow.Author.Rules.{rules}
 use borrow.Author.Tests.{lt-ltb, le-ltb}
 use Rattle.section.proofs.builders.Builders.Closing.{polygon_count, polygon_space}
 use Rattle.section.proofs.builders.builder.push_polygon.Goals as goal

@@ -3,7 +3,6 @@ use native.Mathlib.Omega.{arith}
 use lib.ListN.{length-set}
 use borrow.Author.Tests.{le-ltb, lt-ltb}
 use Rattle.section.specs.builders.Steps.{written}
-use borrow.Author.Rules.{rules}
 use Rattle.section.proofs.builders.builder.put.Goals as goal
 
 pub bounds-space-i-then-at-limit : goal.bounds-space-i-then-at-limit

@@ -1,5 +1,4 @@
 -- `section::builders::builder::same_point` meets its contract.
-use borrow.Author.Rules.{rules}
 use Rattle.section.specs.builders.Builder.{same_point}
 use Rattle.section.proofs.builders.builder.same_point.Goals as goal
 

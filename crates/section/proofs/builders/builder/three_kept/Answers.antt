@@ -1,6 +1,4 @@
 -- `section::builders::builder::three_kept` meets its contract.
-use borrow.Author.Rules.{rules}
-use borrow.Author.Rules.{rules}
 use borrow.Author.Tests.{lt-ltb, le-ltb}
 use Rattle.section.specs.builders.Steps.{three_kept}
 use Rattle.section.proofs.builders.builder.three_kept.Goals as goal

@@ -1,9 +1,7 @@
 -- `section::builders::builder::try_from_polygon` meets its contract.
 use mathlib.Core.Path.{◌∙◌, ap, refl, sym}
 use lib.ListN.{length}
-use borrow.Author.Rules.{rules}
 use Rattle.section.proofs.builders.Builders.Written.{handed, polygon_long}
-use borrow.Author.Rules.{rules}
 use Rattle.section.proofs.builders.builder.try_from_polygon.Goals as goal
 
 pub slice_bounds-result-end : goal.slice_bounds-result-end

@@ -1,7 +1,6 @@
 -- `section::builders::builder::write_polygon` meets its contract.
 use native.Mathlib.Omega.{arith}
 use mathlib.Core.Path.{◌∙◌, ap, sym}
-use borrow.Author.Rules.{rules}
 use Rattle.section.proofs.builders.Builders.Closing.{polygon_whole, polygon_most}
 use Rattle.section.proofs.builders.Builders.Accepted.{polygon_accepted}
 use Rattle.section.proofs.builders.Builders.Written.{polygon_stays, polygon_written}

@@ -1,7 +1,6 @@
 -- `section::builders::builder::write_section` meets its contract.
 use native.Mathlib.Omega.{arith}
 use mathlib.Core.Path.{◌∙◌, ap, sym}
-use borrow.Author.Rules.{rules}
 use Rattle.section.proofs.builders.Builders.Closing.{section_whole, section_most}
 use Rattle.section.proofs.builders.Builders.Accepted.{section_accepted}
 use Rattle.section.proofs.builders.Builders.Written.{section_stays, section_written}

@@ -1,14 +1,12 @@
 -- `section::convex::convex::any_cross` meets its contract: while it searches, no row below i has a proper crossing, and no
 -- edge below j in row i.
-use Prim.Native.Nat.{◌≤◌, ◌-◌}
 use native.Mathlib.Omega.{arith}
-use mathlib.Core.Bool.{false}
-use mathlib.Core.Path.{◌≡◌, refl, sym, ap, ◌∙◌}
+use mathlib.Core.Path.{refl, sym, ap, ◌∙◌}
 use borrow.Author.Rules.{rules}
-use Rattle.section.specs.profile.Vertices.{vertex_at, end_at, any}
-use Rattle.section.specs.convex.Convex.{proper_cross, row_crossing, any_cross}
+use Rattle.section.specs.profile.Vertices.{any}
+use Rattle.section.specs.convex.Convex.{row_crossing, any_cross}
 use Rattle.section.proofs.profile.Fold.{any_more, any_end, any_at}
-use Rattle.section.proofs.convex.Carried.{SideAt, starts_there}
+use Rattle.section.proofs.convex.Carried.{starts_there}
 use Rattle.section.proofs.convex.convex.any_cross.Goals as goal
 
 pub search-init : goal.search-init

@@ -1,14 +1,11 @@
 -- `section::convex::convex::any_cross` meets its contract: while it searches, no row below i has a proper crossing, and no
 -- edge below j in row i.
 use Prim.Native.Nat.{◌≤◌, ◌-◌}
-use native.Mathlib.Omega.{arith}
 use mathlib.Core.Bool.{false}
-use mathlib.Core.Path.{◌≡◌, refl, sym, ap, ◌∙◌}
-use borrow.Author.Rules.{rules}
+use mathlib.Core.Path.{◌≡◌}
 use Rattle.section.specs.profile.Vertices.{vertex_at, end_at, any}
-use Rattle.section.specs.convex.Convex.{proper_cross, row_crossing, any_cross}
-use Rattle.section.proofs.profile.Fold.{any_more, any_end, any_at}
-use Rattle.section.proofs.convex.Carried.{SideAt, starts_there}
+use Rattle.section.specs.convex.Convex.{proper_cross, row_crossing}
+use Rattle.section.proofs.convex.Carried.{SideAt}
 use Rattle.section.proofs.convex.convex.any_cross.Given as goal
 
 abbrev pub invariant-loop-j : goal.invariant-loop-j

@@ -1,6 +1,5 @@
 -- `section::convex::convex::closer_edge` meets its contract.
 use Rattle.section.specs.segments.Segments.{closest}
-use borrow.Author.Rules.{rules}
 use Rattle.section.proofs.convex.convex.closer_edge.Goals as goal
 
 pub returns : goal.returns

@@ -1,5 +1,4 @@
 -- `section::convex::convex::convex_distance` meets its contract.
-use borrow.Author.Rules.{rules}
 use Rattle.section.specs.convex.Convex.{convex_distance}
 use Rattle.section.proofs.points.Asked.{result_asked}
 use Rattle.section.proofs.convex.convex.convex_distance.Goals as goal

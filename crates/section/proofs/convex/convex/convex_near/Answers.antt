@@ -1,12 +1,7 @@
 -- `section::convex::convex::convex_near` meets its contract: a fold.
-use Prim.Native.Nat.{◌≤◌, ◌-◌}
 use native.Mathlib.Omega.{arith}
-use mathlib.Core.Path.{◌≡◌}
 use borrow.Author.Rules.{rules}
-use Rattle.arith.specs.F64.{∞}
-use Rattle.arith.specs.Num.{min}
-use Rattle.section.specs.profile.Vertices.{edge_at, upto}
-use Rattle.section.specs.segments.Segments.{closest}
+use Rattle.section.specs.profile.Vertices.{upto}
 use Rattle.section.specs.convex.Convex.{convex_near}
 use Rattle.section.proofs.profile.Fold.{upto_more, upto_end}
 use Rattle.section.proofs.convex.convex.convex_near.Goals as goal

@@ -1,5 +1,4 @@
 -- `section::convex::convex::convex_overlaps` meets its contract.
-use borrow.Author.Rules.{rules}
 use Rattle.section.proofs.convex.convex.convex_overlaps.Goals as goal
 
 pub returns-then-penetration : goal.returns-then-penetration

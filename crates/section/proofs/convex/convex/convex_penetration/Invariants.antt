@@ -1,11 +1,8 @@
 -- `section::convex::convex::convex_penetration` meets its contract: a fold, from the deepest convex vertex on.
 use Prim.Native.Nat.{◌≤◌, ◌-◌}
-use native.Mathlib.Omega.{arith}
-use mathlib.Core.Path.{◌≡◌, refl}
-use borrow.Author.Rules.{rules}
-use Rattle.section.specs.profile.Vertices.{on, hit, vertex_at, upto, nearest_of}
-use Rattle.section.specs.convex.Convex.{signed_distance_convex, convex_penetration}
-use Rattle.section.proofs.profile.Fold.{upto_more, upto_end}
+use mathlib.Core.Path.{◌≡◌}
+use Rattle.section.specs.profile.Vertices.{on, hit, vertex_at, nearest_of}
+use Rattle.section.specs.convex.Convex.{signed_distance_convex}
 use Rattle.section.proofs.convex.convex.convex_penetration.Given as goal
 
 abbrev pub invariant-loop-j : goal.invariant-loop-j

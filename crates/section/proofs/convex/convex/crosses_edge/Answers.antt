@@ -1,5 +1,4 @@
 -- `section::convex::convex::crosses_edge` meets its contract.
-use borrow.Author.Rules.{rules}
 use Rattle.section.proofs.convex.convex.crosses_edge.Goals as goal
 
 pub proper_cross-requires : goal.proper_cross-requires

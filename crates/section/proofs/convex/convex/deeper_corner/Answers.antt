@@ -1,5 +1,4 @@
 -- `section::convex::convex::deeper_corner` meets its contract.
-use borrow.Author.Rules.{rules}
 use Rattle.section.proofs.convex.convex.deeper_corner.Goals as goal
 
 pub returns : goal.returns

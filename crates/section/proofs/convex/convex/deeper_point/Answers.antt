@@ -1,5 +1,4 @@
 -- `section::convex::convex::deeper_point` meets its contract.
-use borrow.Author.Rules.{rules}
 use Rattle.section.proofs.convex.convex.deeper_point.Goals as goal
 
 pub returns : goal.returns

@@ -1,5 +1,4 @@
 -- `section::convex::convex::deeper_vertex` meets its contract: what lies outside is not below 0.
-use borrow.Author.Rules.{rules}
 use mathlib.Core.Path.{sym, ◌∙◌}
 use Rattle.section.proofs.convex.Outside.{convex_outside}
 use Rattle.section.proofs.convex.convex.deeper_vertex.Goals as goal

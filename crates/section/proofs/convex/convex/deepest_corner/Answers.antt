@@ -1,10 +1,8 @@
 -- `section::convex::convex::deepest_corner` meets its contract: a fold.
-use Prim.Native.Nat.{◌≤◌, ◌-◌}
 use native.Mathlib.Omega.{arith}
-use mathlib.Core.Path.{◌≡◌, refl}
+use mathlib.Core.Path.{refl}
 use borrow.Author.Rules.{rules}
-use Rattle.section.specs.profile.Vertices.{vertex_at, upto, nearest_of}
-use Rattle.section.specs.points.Points.{point_distance}
+use Rattle.section.specs.profile.Vertices.{upto}
 use Rattle.section.proofs.profile.Fold.{upto_more, upto_end}
 use Rattle.section.proofs.convex.convex.deepest_corner.Goals as goal
 

@@ -1,5 +1,4 @@
 -- `section::convex::convex::orient_at` meets its contract.
-use borrow.Author.Rules.{rules}
 use Rattle.section.proofs.convex.convex.orient_at.Goals as goal
 
 pub returns : goal.returns

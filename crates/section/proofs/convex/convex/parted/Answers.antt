@@ -1,5 +1,4 @@
 -- `section::convex::convex::parted` meets its contract: one cross product is positive, and another negative.
-use borrow.Author.Rules.{rules}
 use Rattle.arith.proofs.Laws.OrderHeld.{true→T}
 use Rattle.section.specs.convex.Convex.{point_in_convex}
 use Rattle.section.proofs.convex.Flags.{both_somewhere}

@@ -1,7 +1,5 @@
 -- `section::convex::convex::point_in_convex` meets its contract: two edges that tell it, or all.
 use mathlib.Core.Path.{sym}
-use native.Mathlib.Omega.{arith}
-use borrow.Author.Rules.{rules}
 use Rattle.section.proofs.convex.convex.point_in_convex.Goals as goal
 
 pub returns-then-parted : goal.returns-then-parted

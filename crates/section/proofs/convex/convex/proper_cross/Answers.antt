@@ -1,6 +1,5 @@
 -- `section::convex::convex::proper_cross` meets its contract.
 use Rattle.section.specs.convex.Convex.{proper_cross}
-use borrow.Author.Rules.{rules}
 use Rattle.section.proofs.convex.convex.proper_cross.Goals as goal
 
 pub returns-then-across : goal.returns-then-across

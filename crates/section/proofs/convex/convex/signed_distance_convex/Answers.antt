@@ -1,5 +1,4 @@
 -- `section::convex::convex::signed_distance_convex` meets its contract.
-use borrow.Author.Rules.{rules}
 use Rattle.section.specs.convex.Convex.{signed_distance_convex}
 use Rattle.section.proofs.convex.convex.signed_distance_convex.Goals as goal
 

@@ -1,6 +1,4 @@
 -- `section::convex::gap::convex_gap` meets its contract: a search that starts over some pair, in a window, finds the same.
-use mathlib.Core.Path.{◌≡◌}
-use borrow.Author.Rules.{rules}
 use Rattle.section.proofs.convex.Window.{gap_found, window_of}
 use Rattle.section.proofs.convex.gap.convex_gap.Goals as goal
 

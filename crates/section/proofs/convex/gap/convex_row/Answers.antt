@@ -1,13 +1,7 @@
 -- `section::convex::gap::convex_row` meets its contract: a fold over the window's edges, and no other is nearer.
-use Prim.Native.Nat.{◌≤◌, ◌-◌}
 use native.Mathlib.Omega.{arith}
-use mathlib.Core.Path.{◌≡◌}
 use borrow.Author.Rules.{rules}
-use Rattle.section.specs.profile.Vertices.{edge_at}
 use Rattle.section.proofs.profile.Fold.{upto_more, upto_end}
-use Rattle.section.specs.segments.Segments.{segments}
-use Rattle.section.specs.ranges.Ranges.{ranges_of}
-use Rattle.section.specs.ranges.Search.{FoundFrom}
 use Rattle.section.proofs.convex.Window.{row_found}
 use Rattle.section.proofs.convex.gap.convex_row.Goals as goal
 

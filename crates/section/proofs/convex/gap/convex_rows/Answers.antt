@@ -1,11 +1,9 @@
 -- `section::convex::gap::convex_rows` meets its contract: a fold, in which the window stays one.
-use Prim.Native.Nat.{◌≤◌, ◌-◌}
 use native.Mathlib.Omega.{arith}
-use mathlib.Core.Path.{◌≡◌, refl}
+use mathlib.Core.Path.{refl}
 use borrow.Author.Rules.{rules}
 use Rattle.section.specs.profile.Vertices.{upto}
 use Rattle.section.proofs.profile.Fold.{upto_more, upto_end}
-use Rattle.section.specs.convex.Convex.{convex_row}
 use Rattle.section.proofs.convex.Window.{window_stays}
 use Rattle.section.proofs.convex.gap.convex_rows.Goals as goal
 

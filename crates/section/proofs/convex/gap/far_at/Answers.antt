@@ -1,5 +1,4 @@
 -- `section::convex::gap::far_at` meets its contract.
-use borrow.Author.Rules.{rules}
 use Rattle.section.proofs.convex.gap.far_at.Goals as goal
 
 pub returns : goal.returns

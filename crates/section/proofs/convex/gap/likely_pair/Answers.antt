@@ -1,5 +1,4 @@
 -- `section::convex::gap::likely_pair` meets its contract.
-use borrow.Author.Rules.{rules}
 use Rattle.section.specs.convex.Steps.{of_pair}
 use Rattle.section.proofs.convex.gap.likely_pair.Goals as goal
 

@@ -1,9 +1,6 @@
 -- `section::convex::gap::near_from` meets its contract: the search leaves at the first edge that is not far.
-use Prim.Native.Nat.{ℕ, ◌<◌, ◌≤◌, ◌-◌}
 use native.Mathlib.Omega.{arith}
 use borrow.Author.Rules.{rules}
-use Rattle.section.specs.profile.Vertices.{vertex_at, end_at}
-use Rattle.section.specs.ranges.Hull.{FarOff}
 use Rattle.section.proofs.ranges.HeldEdges.{one_more}
 use Rattle.section.proofs.convex.gap.near_from.Goals as goal
 

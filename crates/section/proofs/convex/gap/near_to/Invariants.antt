@@ -1,10 +1,6 @@
 -- `section::convex::gap::near_to` meets its contract: the search, from the end, leaves at the first edge that is not far.
 use Prim.Native.Nat.{◌-◌}
-use native.Mathlib.Nat.{le_refl}
-use native.Mathlib.Omega.{arith}
-use borrow.Author.Rules.{rules}
 use Rattle.section.specs.convex.Steps.{FarAfter}
-use Rattle.section.proofs.convex.Window.{one_before}
 use Rattle.section.proofs.convex.gap.near_to.Given as goal
 
 abbrev pub invariant-loop-j : goal.invariant-loop-j

@@ -1,6 +1,5 @@
 -- `section::convex::gap::nearer_edge` meets its contract: an edge that lies far off is not nearer.
 use mathlib.Core.Path.{subst, sym}
-use borrow.Author.Rules.{rules}
 use Rattle.section.proofs.ranges.FarOff.{far_off_not_nearer}
 use Rattle.section.proofs.ranges.HeldEdges.{HoldsEdge, edge_holds}
 use Rattle.section.specs.declared.ranges.shapes.Sides.{Sides}

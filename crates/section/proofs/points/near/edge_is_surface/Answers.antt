@@ -1,5 +1,4 @@
 -- `section::points::near::edge_is_surface` meets its contract.
-use borrow.Author.Rules.{rules}
 use Rattle.section.proofs.points.near.edge_is_surface.Goals as goal
 
 pub returns-then-abs : goal.returns-then-abs

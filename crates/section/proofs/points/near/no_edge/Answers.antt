@@ -1,5 +1,4 @@
 -- `section::points::near::no_edge` meets its contract.
-use borrow.Author.Rules.{rules}
 use Rattle.section.proofs.points.near.no_edge.Goals as goal
 
 pub returns : goal.returns

@@ -1,5 +1,4 @@
 -- `section::points::near::passed_over` meets its contract: along one axis the edge is as far as the best.
-use borrow.Author.Rules.{rules}
 use Rattle.arith.proofs.Laws.OrderHeld.{true→T}
 use Rattle.section.proofs.ranges.FarApart.{far_from_r, far_from_z}
 use Rattle.section.proofs.points.near.passed_over.Goals as goal

@@ -1,5 +1,4 @@
 -- `section::points::near::surface_edge` meets its contract.
-use borrow.Author.Rules.{rules}
 use Rattle.section.proofs.points.near.surface_edge.Goals as goal
 
 pub returns-then-counts : goal.returns-then-counts

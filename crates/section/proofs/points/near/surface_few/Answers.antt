@@ -1,12 +1,9 @@
 -- `section::points::near::surface_few` meets its contract: a fold.
-use Prim.Native.Nat.{◌≤◌, ◌-◌}
 use native.Mathlib.Omega.{arith}
-use mathlib.Core.Path.{◌≡◌, refl}
+use mathlib.Core.Path.{refl}
 use borrow.Author.Rules.{rules}
 use Rattle.section.specs.profile.Vertices.{upto}
 use Rattle.section.proofs.profile.Fold.{upto_more, upto_end}
-use Rattle.section.specs.segments.Legs.{Legs}
-use Rattle.section.specs.points.Points.{surface_step}
 use Rattle.section.proofs.points.Surface.{stepped}
 use Rattle.section.proofs.points.near.surface_few.Goals as goal
 

@@ -1,6 +1,5 @@
 -- `section::points::near::surface_first` meets its contract.
 use mathlib.Core.Path.{◌∙◌, ap}
-use borrow.Author.Rules.{rules}
 use Rattle.section.specs.points.Points.{surface_step}
 use Rattle.section.proofs.points.Surface.{stepped}
 use Rattle.section.proofs.points.near.surface_first.Goals as goal

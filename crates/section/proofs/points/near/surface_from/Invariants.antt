@@ -1,13 +1,8 @@
 -- `section::points::near::surface_from` meets its contract: a fold, from whatever start.
 use Prim.Native.Nat.{◌≤◌, ◌-◌}
-use native.Mathlib.Omega.{arith}
-use borrow.Author.Rules.{rules}
-use mathlib.Core.Path.{◌∙◌}
-use Rattle.section.proofs.profile.Fold.{upto_more, upto_end}
 use Rattle.section.specs.profile.Vertices.{vertex}
 use Rattle.section.specs.segments.Legs.{Legs}
 use Rattle.section.specs.points.Steps.{SurfaceFrom}
-use Rattle.section.proofs.points.Surface.{step_at}
 use Rattle.section.proofs.points.near.surface_from.Given as goal
 
 abbrev pub invariant-loop-k : goal.invariant-loop-k

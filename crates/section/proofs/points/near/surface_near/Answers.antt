@@ -1,5 +1,4 @@
 -- `section::points::near::surface_near` meets its contract.
-use borrow.Author.Rules.{rules}
 use Rattle.section.proofs.points.Surface.{surface_in_turn}
 use Rattle.section.proofs.points.near.surface_near.Goals as goal
 

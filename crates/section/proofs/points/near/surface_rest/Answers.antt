@@ -1,6 +1,5 @@
 -- `section::points::near::surface_rest` meets its contract: a search that starts over what it meets anyway finds the same.
 use mathlib.Core.Path.{subst, sym}
-use borrow.Author.Rules.{rules}
 use Rattle.section.specs.ranges.Search.{StartOver}
 use Rattle.section.proofs.points.Surface.{surface_met_first}
 use Rattle.section.proofs.points.near.surface_rest.Goals as goal

@@ -1,5 +1,4 @@
 -- `section::points::near::surface_step` meets its contract.
-use borrow.Author.Rules.{rules}
 use Rattle.section.proofs.points.Surface.{stepped, unmoved}
 use Rattle.section.proofs.points.near.surface_step.Goals as goal
 

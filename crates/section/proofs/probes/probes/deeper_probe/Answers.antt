@@ -1,6 +1,5 @@
 -- `section::probes::probes::deeper_probe` meets its contract: what lies outside is not below 0.
 use mathlib.Core.Path.{sym, ◌∙◌}
-use borrow.Author.Rules.{rules}
 use Rattle.section.proofs.points.Outside.{point_outside}
 use Rattle.section.proofs.probes.Parity.{odd_inside, off_axis_lem}
 use Rattle.section.proofs.probes.probes.deeper_probe.Goals as goal

@@ -1,6 +1,5 @@
 -- `section::probes::probes::none_inside` meets its contract.
 use Rattle.arith.proofs.Laws.OrderHeld.{true→T}
-use borrow.Author.Rules.{rules}
 use Rattle.section.proofs.probes.probes.none_inside.Goals as goal
 
 pub returns-then-odd : goal.returns-then-odd

@@ -1,5 +1,4 @@
 -- `section::probes::probes::odd_after` meets its contract.
-use borrow.Author.Rules.{rules}
 use Rattle.section.proofs.probes.probes.odd_after.Goals as goal
 
 pub returns : goal.returns

@@ -1,5 +1,4 @@
 -- `section::probes::probes::odd_at` meets its contract: an edge that no probe's radius parts is crossed at none.
-use borrow.Author.Rules.{rules}
 use Rattle.section.proofs.probes.Radii.{odd_kept}
 use Rattle.section.proofs.probes.probes.odd_at.Goals as goal
 

@@ -1,5 +1,4 @@
 -- `section::probes::probes::odd_next` meets its contract.
-use borrow.Author.Rules.{rules}
 use Rattle.section.proofs.probes.probes.odd_next.Goals as goal
 
 pub returns : goal.returns

@@ -1,9 +1,6 @@
 -- `section::probes::probes::odd_probes` meets its contract: five folds at once.
 use Prim.Native.Nat.{◌≤◌, ◌-◌}
-use native.Mathlib.Omega.{arith}
-use borrow.Author.Rules.{rules}
 use Rattle.section.specs.probes.Probes.{OddProbes}
-use Rattle.section.proofs.probes.Parity.{at_first, at_last, one_more}
 use Rattle.section.proofs.probes.probes.odd_probes.Given as goal
 
 abbrev pub invariant-loop-k : goal.invariant-loop-k

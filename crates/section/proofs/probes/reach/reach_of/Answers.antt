@@ -1,5 +1,4 @@
 -- `section::probes::reach::reach_of` meets its contract.
-use borrow.Author.Rules.{rules}
 use Rattle.section.proofs.probes.Radii.{everywhere}
 use Rattle.section.proofs.probes.reach.reach_of.Goals as goal
 

@@ -1,5 +1,4 @@
 -- `section::profile::vertices::edge_at` meets its contract.
-use borrow.Author.Rules.{rules}
 use Rattle.section.proofs.profile.vertices.edge_at.Goals as goal
 
 pub returns : goal.returns

@@ -1,5 +1,4 @@
 -- `section::profile::vertices::end_at` meets its contract.
-use borrow.Author.Rules.{rules}
 use Rattle.section.proofs.profile.vertices.end_at.Goals as goal
 
 pub returns : goal.returns

@@ -1,5 +1,4 @@
 -- `section::ranges::hull::wider` meets its contract.
-use borrow.Author.Rules.{rules}
 use Rattle.section.specs.ranges.Hull.{wider}
 use Rattle.section.proofs.ranges.hull.wider.Goals as goal
 

@@ -1,5 +1,4 @@
 -- `section::ranges::hull::wider_at` meets its contract.
-use borrow.Author.Rules.{rules}
 use Rattle.section.proofs.ranges.hull.wider_at.Goals as goal
 
 pub returns : goal.returns

@@ -1,7 +1,5 @@
 -- `section::ranges::likely::likely_edge` meets its contract: it names an edge.
 use Prim.Native.Nat.{◌≤◌, ◌<◌, ◌-◌}
-use mathlib.Core.Logic.{⊎_elim}
-use borrow.Author.Rules.{rules}
 use Rattle.section.proofs.ranges.likely.likely_edge.Given as goal
 
 abbrev pub invariant-loop-k : goal.invariant-loop-k

@@ -1,6 +1,5 @@
 -- `section::ranges::passed::far_from` meets its contract: both computed ends lie as far to one side.
 use mathlib.Core.Path.{sym, ◌∙◌}
-use borrow.Author.Rules.{rules}
 use Rattle.arith.proofs.Laws.OrderHeld.{true→T}
 use Rattle.section.proofs.ranges.FarApart.{far_over, far_under}
 use Rattle.section.proofs.ranges.passed.far_from.Goals as goal

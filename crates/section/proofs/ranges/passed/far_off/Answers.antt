@@ -1,8 +1,6 @@
 -- `section::ranges::passed::far_off` meets its contract: its legs are hopeless.
-use mathlib.Core.Path.{◌≡◌}
 use Rattle.section.proofs.segments.Legs.{hopeless_z}
 use Rattle.section.proofs.ranges.Apart.{gap_held, gap_plus}
-use borrow.Author.Rules.{rules}
 use Rattle.section.proofs.ranges.passed.far_off.Goals as goal
 
 pub returns-then-z-least : goal.returns-then-z-least

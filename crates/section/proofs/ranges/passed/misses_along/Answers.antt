@@ -1,6 +1,5 @@
 -- `section::ranges::passed::misses_along` meets its contract.
 use Rattle.section.specs.ranges.Ranges.{misses_along}
-use borrow.Author.Rules.{rules}
 use Rattle.section.proofs.ranges.passed.misses_along.Goals as goal
 
 pub returns-then-side_misses : goal.returns-then-side_misses

@@ -1,7 +1,6 @@
 -- `section::ranges::passed::misses_box` meets its contract: along one axis.
 use mathlib.Core.Path.{sym, ◌∙◌}
 use Rattle.section.proofs.ranges.Missed.{missed_r, missed_z}
-use borrow.Author.Rules.{rules}
 use Rattle.section.proofs.ranges.passed.misses_box.Goals as goal
 
 pub returns-then-misses_along : goal.returns-then-misses_along

@@ -1,6 +1,5 @@
 -- `section::ranges::passed::side_misses` meets its contract.
 use Rattle.section.specs.ranges.Ranges.{side_misses}
-use borrow.Author.Rules.{rules}
 use Rattle.section.proofs.ranges.passed.side_misses.Goals as goal
 
 pub returns-then-q : goal.returns-then-q

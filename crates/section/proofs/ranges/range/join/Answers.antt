@@ -1,6 +1,5 @@
 -- `section::ranges::range::join` meets its contract.
 use Rattle.section.specs.ranges.Ranges.{joined}
-use borrow.Author.Rules.{rules}
 use Rattle.section.proofs.ranges.range.join.Goals as goal
 
 pub returns : goal.returns

@@ -1,6 +1,5 @@
 -- `section::ranges::range::range_of` meets its contract.
 use Rattle.section.specs.ranges.Ranges.{range_of}
-use borrow.Author.Rules.{rules}
 use Rattle.section.proofs.ranges.range.range_of.Goals as goal
 
 pub returns-then-d : goal.returns-then-d

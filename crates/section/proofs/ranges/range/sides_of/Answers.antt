@@ -1,5 +1,4 @@
 -- `section::ranges::range::sides_of` meets its contract.
-use borrow.Author.Rules.{rules}
 use Rattle.section.proofs.ranges.range.sides_of.Goals as goal
 
 pub returns : goal.returns

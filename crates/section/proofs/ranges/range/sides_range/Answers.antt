@@ -1,6 +1,5 @@
 -- `section::ranges::range::sides_range` meets its contract.
 use Rattle.section.specs.ranges.Ranges.{sides_range}
-use borrow.Author.Rules.{rules}
 use Rattle.section.proofs.ranges.range.sides_range.Goals as goal
 
 pub returns : goal.returns

@@ -1,7 +1,6 @@
 -- `section::refusals::fine::numbers_fine` meets its contract.
 use Rattle.arith.proofs.Laws.OrderHeld.{true→T}
 use mathlib.Core.Path.{sym, ◌∙◌}
-use borrow.Author.Rules.{rules}
 use Rattle.section.proofs.refusals.fine.numbers_fine.Goals as goal
 
 pub returns-then-any_beyond_limit : goal.returns-then-any_beyond_limit

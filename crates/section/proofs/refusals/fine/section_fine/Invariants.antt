@@ -1,18 +1,13 @@
 -- `section::refusals::fine::section_fine` meets its contract: the vertices tried so far are fine.
 use Prim.Native.Nat.{◌≤◌, ◌*◌, ◌-◌}
-use native.Mathlib.Omega.{arith}
 use mathlib.Core.Bool.{false}
-use mathlib.Core.Path.{◌≡◌, refl, sym}
+use mathlib.Core.Path.{◌≡◌}
 use lib.Ieee.{neg}
 use lib.ListN.{drop}
-use borrow.Author.Rules.{rules}
 use Rattle.arith.specs.F64.{◌≺◌, e_9}
-use Rattle.arith.proofs.Laws.OrderHeld.{true→T}
-use Rattle.section.specs.profile.Refusals.{any_below_axis, any_of}
+use Rattle.section.specs.profile.Refusals.{any_of}
 use Rattle.section.specs.profile.Steps.{beyond_limit}
 use Rattle.section.specs.profile.Vertices.{any, vertex_at}
-use Rattle.section.proofs.profile.Fold.{any_end, any_more}
-use Rattle.section.proofs.profile.Refusals.AnyOf.{any_of_pairs_end, any_of_two}
 use Rattle.section.proofs.refusals.fine.section_fine.Given as goal
 
 abbrev pub invariant-loop-k : goal.invariant-loop-k

@@ -1,7 +1,5 @@
 -- `section::refusals::fine::vertex_fine` meets its contract.
-use mathlib.Core.Path.{◌≡◌}
 use Rattle.arith.proofs.Laws.OrderHeld.{true→T}
-use borrow.Author.Rules.{rules}
 use Rattle.section.proofs.refusals.fine.vertex_fine.Goals as goal
 
 pub returns-then-r : goal.returns-then-r

@@ -1,14 +1,10 @@
 -- `section::refusals::refusal::any_below_axis` meets its contract.
 use Prim.Native.Nat.{◌≤◌, ◌-◌}
-use native.Mathlib.Omega.{arith}
 use mathlib.Core.Bool.{false}
-use mathlib.Core.Path.{◌≡◌, refl}
+use mathlib.Core.Path.{◌≡◌}
 use lib.Ieee.{neg}
-use borrow.Author.Rules.{rules}
 use Rattle.arith.specs.F64.{◌≺◌, e_9}
 use Rattle.section.specs.profile.Vertices.{vertex_at, any}
-use Rattle.section.specs.profile.Refusals.{any_below_axis}
-use Rattle.section.proofs.profile.Fold.{any_more, any_end, any_at}
 use Rattle.section.proofs.refusals.refusal.any_below_axis.Given as goal
 
 abbrev pub invariant-loop-k : goal.invariant-loop-k

@@ -1,10 +1,5 @@
 -- `section::refusals::refusal::any_beyond_limit` meets its contract: what is not yet tried decides for the whole list.
-use Prim.Native.Nat.{◌≤◌, ◌-◌}
-use mathlib.Core.Path.{◌≡◌}
-use lib.ListN.{length, drop}
 use borrow.Author.Rules.{rules}
-use Rattle.section.specs.profile.Refusals.{any_of}
-use Rattle.section.specs.profile.Steps.{beyond_limit}
 use Rattle.section.proofs.profile.Refusals.AnyOf.{any_of_more, any_of_at, any_of_end}
 use Rattle.section.proofs.refusals.refusal.any_beyond_limit.Goals as goal
 

@@ -2,10 +2,8 @@
 use Prim.Native.Nat.{◌≤◌, ◌-◌}
 use mathlib.Core.Path.{◌≡◌}
 use lib.ListN.{length, drop}
-use borrow.Author.Rules.{rules}
 use Rattle.section.specs.profile.Refusals.{any_of}
 use Rattle.section.specs.profile.Steps.{beyond_limit}
-use Rattle.section.proofs.profile.Refusals.AnyOf.{any_of_more, any_of_at, any_of_end}
 use Rattle.section.proofs.refusals.refusal.any_beyond_limit.Given as goal
 
 abbrev pub invariant-loop-i : goal.invariant-loop-i

@@ -2,9 +2,7 @@
 use Prim.Native.Nat.{◌≤◌, ◌-◌}
 use mathlib.Core.Path.{◌≡◌}
 use lib.ListN.{length, drop}
-use borrow.Author.Rules.{rules}
 use Rattle.section.specs.profile.Refusals.{any_of, not_finite}
-use Rattle.section.proofs.profile.Refusals.AnyOf.{any_of_more, any_of_at, any_of_end}
 use Rattle.section.proofs.refusals.refusal.any_not_finite.Given as goal
 
 abbrev pub invariant-loop-i : goal.invariant-loop-i

@@ -1,5 +1,4 @@
 -- `section::refusals::refusal::axis_refusal` meets its contract.
-use borrow.Author.Rules.{rules}
 use Rattle.section.specs.profile.Refusals.{refusal}
 use Rattle.section.proofs.refusals.refusal.axis_refusal.Goals as goal
 

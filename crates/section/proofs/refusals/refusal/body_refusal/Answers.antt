@@ -1,9 +1,8 @@
 -- `section::refusals::refusal::body_refusal` meets its contract.
-use mathlib.Core.Path.{◌≡◌, refl, ◌∙◌}
+use mathlib.Core.Path.{refl, ◌∙◌}
 use Rattle.section.specs.profile.Refusals.{number_tests}
 use Rattle.section.proofs.profile.Refusals.Beyond.{none_below, none_refused, none_within}
 use Rattle.section.proofs.profile.Refusals.Ordered.{by_first, by_second, by_own, or_else_first, or_else_second}
-use borrow.Author.Rules.{rules}
 use Rattle.section.proofs.refusals.refusal.body_refusal.Goals as goal
 
 pub returns-then-of_shape-ne0 : goal.returns-then-of_shape-ne0

@@ -1,5 +1,4 @@
 -- `section::refusals::refusal::box_refusal` meets its contract.
-use borrow.Author.Rules.{rules}
 use Rattle.section.specs.profile.Refusals.{given_tests, axis_tests}
 use Rattle.section.proofs.profile.Refusals.Ordered.{own_after}
 use Rattle.section.proofs.refusals.refusal.box_refusal.Goals as goal

@@ -1,5 +1,4 @@
 -- `section::refusals::refusal::convex_refusal` meets its contract.
-use borrow.Author.Rules.{rules}
 use mathlib.Core.Path.{◌∙◌, refl, sym}
 use Rattle.section.specs.profile.Refusals.{refusal, given_tests, number_tests, axis_tests}
 use Rattle.section.proofs.profile.Refusals.Beyond.{none_below, none_refused, none_within_second}

@@ -1,5 +1,4 @@
 -- `section::refusals::refusal::list_refusal` meets its contract.
-use borrow.Author.Rules.{rules}
 use mathlib.Core.List.{append-nil}
 use mathlib.Core.Path.{sym, ◌∙◌}
 use Rattle.section.specs.profile.Refusals.{number_tests}

@@ -1,5 +1,4 @@
 -- `section::refusals::refusal::not_finite_in` meets its contract: a list in parts.
-use borrow.Author.Rules.{rules}
 use Rattle.section.proofs.profile.Refusals.AnyOf.{any_of_append}
 use Rattle.section.proofs.refusals.refusal.not_finite_in.Goals as goal
 

@@ -1,5 +1,4 @@
 -- `section::refusals::refusal::numbers_refusal` meets its contract: what is beyond the limit is what 4 or 5 turns down.
-use borrow.Author.Rules.{rules}
 use mathlib.Core.Path.{sym, ◌∙◌}
 use Rattle.section.specs.profile.Refusals.{refusal}
 use Rattle.section.proofs.profile.Refusals.Beyond.{none_refused, some_over}

@@ -1,5 +1,4 @@
 -- `section::refusals::refusal::point_refusal` meets its contract.
-use borrow.Author.Rules.{rules}
 use mathlib.Core.List.{[]}
 use Rattle.section.specs.profile.Refusals.{given_tests, axis_tests}
 use Rattle.section.proofs.profile.Refusals.Ordered.{no_settings, own_after}

@@ -1,5 +1,4 @@
 -- `section::refusals::refusal::shape_refusal` meets its contract.
-use mathlib.Core.Bool.{or-false}
 use borrow.Author.Tests.{eq-eqb, le-ltb, lt-ltb, ne_eqb}
 use Rattle.section.specs.profile.Refusals.{any_of, refusal}
 use Rattle.section.proofs.refusals.refusal.shape_refusal.Goals as goal

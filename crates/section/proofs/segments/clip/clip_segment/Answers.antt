@@ -1,6 +1,5 @@
 -- `section::segments::clip::clip_segment` meets its contract.
 use Rattle.section.specs.segments.Clip.{clip}
-use borrow.Author.Rules.{rules}
 use Rattle.section.proofs.segments.clip.clip_segment.Goals as goal
 
 pub returns-then-after_r1 : goal.returns-then-after_r1

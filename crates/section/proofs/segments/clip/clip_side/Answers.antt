@@ -6,7 +6,6 @@ use Rattle.arith.specs.F64.{◌⊘◌, ◌≺◌, ◌≼◌, 𝟘, e_15, e_18}
 use Rattle.arith.specs.Num.{abs}
 use Rattle.section.specs.declared.segments.shapes.Clip.{Clip}
 use Rattle.section.specs.segments.Clip.{clip_side, outside, part}
-use borrow.Author.Rules.{rules}
 use Rattle.section.proofs.segments.clip.clip_side.Goals as goal
 
 -- What is left where the segment comes in, and where it goes out.

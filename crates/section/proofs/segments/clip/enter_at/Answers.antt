@@ -1,5 +1,4 @@
 -- `section::segments::clip::enter_at` meets its contract.
-use borrow.Author.Rules.{rules}
 use Rattle.section.proofs.segments.clip.enter_at.Goals as goal
 
 pub returns-then-t-t1 : goal.returns-then-t-t1

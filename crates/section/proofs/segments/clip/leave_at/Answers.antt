@@ -1,5 +1,4 @@
 -- `section::segments::clip::leave_at` meets its contract.
-use borrow.Author.Rules.{rules}
 use Rattle.section.proofs.segments.clip.leave_at.Goals as goal
 
 pub returns-then-t-t0 : goal.returns-then-t-t0

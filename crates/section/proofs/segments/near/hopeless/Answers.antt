@@ -1,7 +1,6 @@
 -- `section::segments::near::hopeless` meets its contract: both legs reach the best's, or they are too far for it.
 use Rattle.arith.proofs.Laws.OrderHeld.{true→T}
 use Rattle.section.proofs.segments.Legs.{hopeless_legs}
-use borrow.Author.Rules.{rules}
 use Rattle.section.proofs.segments.near.hopeless.Goals as goal
 
 pub returns-then-r-best : goal.returns-then-r-best

@@ -1,7 +1,6 @@
 -- `section::segments::near::legless` meets its contract: infinite legs tell nothing.
 use mathlib.Core.Path.{refl}
 use Rattle.section.proofs.segments.Legs.{no_legs}
-use borrow.Author.Rules.{rules}
 use Rattle.section.proofs.segments.near.legless.Goals as goal
 
 pub returns : goal.returns

@@ -1,10 +1,8 @@
 -- `section::segments::near::nearer_legs` meets its contract: what reaches both legs is not nearer, and what is taken has its own.
-use mathlib.Core.Path.{◌≡◌, sym}
 use lib.Ieee.{binary64}
 use lib.Ieee.Fits.{sub-fits}
 use Rattle.arith.proofs.Laws.OrderHeld.{true→T}
 use Rattle.section.proofs.segments.Legs.{new_legs, reached, still_best}
-use borrow.Author.Rules.{rules}
 use Rattle.section.proofs.segments.near.nearer_legs.Goals as goal
 
 pub returns-then-r-best : goal.returns-then-r-best

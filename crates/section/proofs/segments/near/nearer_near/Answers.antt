@@ -1,5 +1,4 @@
 -- `section::segments::near::nearer_near` meets its contract.
-use mathlib.Core.Path.{refl}
 use Rattle.section.proofs.segments.near.nearer_near.Goals as goal
 
 pub returns-then-new-best : goal.returns-then-new-best

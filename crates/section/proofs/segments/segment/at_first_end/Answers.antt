@@ -1,5 +1,4 @@
 -- `section::segments::segment::at_first_end` meets its contract.
-use borrow.Author.Rules.{rules}
 use Rattle.section.proofs.segments.segment.at_first_end.Goals as goal
 
 pub returns : goal.returns

@@ -1,5 +1,4 @@
 -- `section::segments::segment::closer_between` meets its contract: where a leg reaches the best, the hypot is no less.
-use borrow.Author.Rules.{rules}
 use lib.Ieee.{binary64}
 use lib.Ieee.Fits.{sub-fits}
 use Rattle.arith.proofs.Laws.HypotReach.{hypot_reaches, hypot_reaches_right}

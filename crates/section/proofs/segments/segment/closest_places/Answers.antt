@@ -1,6 +1,5 @@
 -- `section::segments::segment::closest_places` meets its contract.
 use Rattle.section.specs.segments.Segments.{closest_places}
-use borrow.Author.Rules.{rules}
 use Rattle.section.proofs.segments.segment.closest_places.Goals as goal
 
 pub returns-then-e : goal.returns-then-e

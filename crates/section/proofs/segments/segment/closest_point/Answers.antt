@@ -1,6 +1,5 @@
 -- `section::segments::segment::closest_point` meets its contract.
 use Rattle.section.specs.segments.Segments.{closest_point}
-use borrow.Author.Rules.{rules}
 use Rattle.section.proofs.segments.segment.closest_point.Goals as goal
 
 pub returns-then-len2 : goal.returns-then-len2

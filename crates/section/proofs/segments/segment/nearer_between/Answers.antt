@@ -1,6 +1,5 @@
 -- `section::segments::segment::nearer_between` meets its contract: where a leg or the sum of squares reaches the best, so does the hypot. Assumes
 -- nothing.
-use borrow.Author.Rules.{rules}
 use lib.Ieee.{binary64}
 use lib.Ieee.Fits.{sub-fits}
 use Rattle.arith.proofs.Laws.HypotSquares.{margin, squares_not_less}

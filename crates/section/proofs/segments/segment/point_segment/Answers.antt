@@ -1,6 +1,5 @@
 -- `section::segments::segment::point_segment` meets its contract.
 use Rattle.section.specs.segments.Segments.{closest}
-use borrow.Author.Rules.{rules}
 use Rattle.section.proofs.segments.segment.point_segment.Goals as goal
 
 pub returns : goal.returns

@@ -1,6 +1,5 @@
 -- `section::segments::segment::seg_seg_point_on_first` meets its contract.
 use Rattle.section.specs.segments.Segments.{segments}
-use borrow.Author.Rules.{rules}
 use Rattle.section.proofs.segments.segment.seg_seg_point_on_first.Goals as goal
 
 pub nearer_legs-requires : goal.nearer_legs-requires

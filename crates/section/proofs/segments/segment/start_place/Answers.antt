@@ -1,5 +1,4 @@
 -- `section::segments::segment::start_place` meets its contract.
-use borrow.Author.Rules.{rules}
 use Rattle.section.proofs.segments.segment.start_place.Goals as goal
 
 pub returns-then-abs : goal.returns-then-abs

@@ -1,5 +1,4 @@
 -- `section::signed::distance::axis_step` meets its contract.
-use borrow.Author.Rules.{rules}
 use Rattle.section.proofs.signed.distance.axis_step.Goals as goal
 
 pub returns : goal.returns

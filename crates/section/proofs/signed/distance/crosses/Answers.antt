@@ -1,6 +1,5 @@
 -- `section::signed::distance::crosses` meets its contract.
 use Rattle.section.specs.points.Points.{crosses}
-use borrow.Author.Rules.{rules}
 use Rattle.section.proofs.signed.distance.crosses.Goals as goal
 
 pub returns-then-ar-pr : goal.returns-then-ar-pr

@@ -1,6 +1,5 @@
 -- `section::signed::distance::in_section` meets its contract.
 use Rattle.section.specs.points.Points.{in_section}
-use borrow.Author.Rules.{rules}
 use Rattle.section.proofs.signed.distance.in_section.Goals as goal
 
 pub returns-then-point_inside : goal.returns-then-point_inside

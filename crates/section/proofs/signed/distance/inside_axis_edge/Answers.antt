@@ -1,6 +1,5 @@
 -- `section::signed::distance::inside_axis_edge` meets its contract.
 use Rattle.section.specs.points.Points.{inside_axis_edge}
-use borrow.Author.Rules.{rules}
 use Rattle.section.proofs.signed.distance.inside_axis_edge.Goals as goal
 
 pub returns-then-edge_is_surface : goal.returns-then-edge_is_surface

@@ -1,5 +1,4 @@
 -- `section::signed::distance::meridian` meets its contract.
-use borrow.Author.Rules.{rules}
 use Rattle.section.proofs.signed.distance.meridian.Goals as goal
 
 pub returns : goal.returns

@@ -1,10 +1,7 @@
 -- `section::signed::distance::on_axis` meets its contract: a search, nothing found so far.
-use Prim.Native.Nat.{◌≤◌, ◌-◌}
 use native.Mathlib.Omega.{arith}
-use mathlib.Core.Bool.{false}
-use mathlib.Core.Path.{◌≡◌, refl}
-use Rattle.section.specs.profile.Vertices.{vertex_at, end_at, any}
-use Rattle.section.specs.points.Points.{inside_axis_edge}
+use mathlib.Core.Path.{refl}
+use Rattle.section.specs.profile.Vertices.{any}
 use Rattle.section.proofs.profile.Fold.{any_more, any_end, any_at}
 use borrow.Author.Rules.{rules}
 use Rattle.section.proofs.signed.distance.on_axis.Goals as goal

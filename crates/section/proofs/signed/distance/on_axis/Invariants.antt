@@ -1,12 +1,9 @@
 -- `section::signed::distance::on_axis` meets its contract: a search, nothing found so far.
 use Prim.Native.Nat.{◌≤◌, ◌-◌}
-use native.Mathlib.Omega.{arith}
 use mathlib.Core.Bool.{false}
-use mathlib.Core.Path.{◌≡◌, refl}
+use mathlib.Core.Path.{◌≡◌}
 use Rattle.section.specs.profile.Vertices.{vertex_at, end_at, any}
 use Rattle.section.specs.points.Points.{inside_axis_edge}
-use Rattle.section.proofs.profile.Fold.{any_more, any_end, any_at}
-use borrow.Author.Rules.{rules}
 use Rattle.section.proofs.signed.distance.on_axis.Given as goal
 
 abbrev pub invariant-loop-k : goal.invariant-loop-k

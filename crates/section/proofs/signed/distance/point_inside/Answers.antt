@@ -1,11 +1,8 @@
 -- `section::signed::distance::point_inside` meets its contract: a fold.
-use Prim.Native.Nat.{◌≤◌, ◌-◌}
 use native.Mathlib.Omega.{arith}
-use mathlib.Core.Bool.{false}
-use mathlib.Core.Path.{◌≡◌, refl}
-use lib.Ieee.{unlike}
-use Rattle.section.specs.profile.Vertices.{vertex_at, end_at, upto}
-use Rattle.section.specs.points.Points.{crosses, point_inside}
+use mathlib.Core.Path.{refl}
+use Rattle.section.specs.profile.Vertices.{upto}
+use Rattle.section.specs.points.Points.{point_inside}
 use Rattle.section.proofs.profile.Fold.{upto_more, upto_end}
 use borrow.Author.Rules.{rules}
 use Rattle.section.proofs.signed.distance.point_inside.Goals as goal

@@ -1,13 +1,10 @@
 -- `section::signed::distance::point_inside` meets its contract: a fold.
 use Prim.Native.Nat.{◌≤◌, ◌-◌}
-use native.Mathlib.Omega.{arith}
 use mathlib.Core.Bool.{false}
-use mathlib.Core.Path.{◌≡◌, refl}
+use mathlib.Core.Path.{◌≡◌}
 use lib.Ieee.{unlike}
 use Rattle.section.specs.profile.Vertices.{vertex_at, end_at, upto}
-use Rattle.section.specs.points.Points.{crosses, point_inside}
-use Rattle.section.proofs.profile.Fold.{upto_more, upto_end}
-use borrow.Author.Rules.{rules}
+use Rattle.section.specs.points.Points.{crosses}
 use Rattle.section.proofs.signed.distance.point_inside.Given as goal
 
 abbrev pub invariant-loop-k : goal.invariant-loop-k

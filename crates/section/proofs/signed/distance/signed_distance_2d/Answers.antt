@@ -1,5 +1,4 @@
 -- `section::signed::distance::signed_distance_2d` meets its contract.
-use borrow.Author.Rules.{rules}
 use Rattle.section.proofs.signed.distance.signed_distance_2d.Goals as goal
 
 pub returns : goal.returns

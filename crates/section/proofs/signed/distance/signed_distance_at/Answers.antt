@@ -1,6 +1,5 @@
 -- `section::signed::distance::signed_distance_at` meets its contract.
 use Rattle.section.specs.points.Points.{point_distance}
-use borrow.Author.Rules.{rules}
 use Rattle.section.proofs.signed.distance.signed_distance_at.Goals as goal
 
 pub returns-then-best : goal.returns-then-best

@@ -1,6 +1,5 @@
 -- `section::signed::distance::sphere_distance` meets its contract.
 use Rattle.section.specs.points.Points.{sphere_distance}
-use borrow.Author.Rules.{rules}
 use Rattle.section.proofs.signed.distance.sphere_distance.Goals as goal
 
 pub returns : goal.returns

@@ -1,5 +1,4 @@
 -- `section::signed::overlap::deeper_at` meets its contract: what lies outside is not below 0.
-use borrow.Author.Rules.{rules}
 use mathlib.Core.Path.{sym, ◌∙◌}
 use Rattle.section.proofs.points.Outside.{point_outside}
 use Rattle.section.proofs.signed.overlap.deeper_at.Goals as goal

@@ -1,6 +1,5 @@
 -- `section::signed::overlap::deeper_inside` meets its contract: what is known to lie inside is as deep as its nearest edge is far.
 use mathlib.Core.Path.{sym, ◌∙◌}
-use borrow.Author.Rules.{rules}
 use Rattle.arith.proofs.Laws.OrderHeld.{true→T}
 use Rattle.section.proofs.points.Inside.{as_deep, no_deeper, nothing_near, on_boundary}
 use Rattle.section.proofs.signed.overlap.deeper_inside.Goals as goal

@@ -1,6 +1,5 @@
 -- `store::edits::allowing::add_not_allowed` meets its contract.
 use Rattle.store.specs.edits.Edits.{not_allowed}
-use borrow.Author.Rules.{rules}
 use Rattle.store.proofs.edits.allowing.add_not_allowed.Goals as goal
 
 pub returns-in-Setter : goal.returns-in-Setter

@@ -1,7 +1,6 @@
 -- `store::edits::allowing::replace_not_allowed` meets its contract.
 use borrow.Author.Tests.{eq-eqb, ne_eqb}
 use Rattle.store.specs.edits.Edits.{not_allowed}
-use borrow.Author.Rules.{rules}
 use Rattle.store.proofs.edits.allowing.replace_not_allowed.Goals as goal
 
 pub returns-in-Setter : goal.returns-in-Setter

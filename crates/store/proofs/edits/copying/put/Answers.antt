@@ -1,8 +1,6 @@
 -- `store::edits::copying::put` meets its contract: one byte goes in a turn.
-use Prim.Native.Nat.{◌+◌, ◌-◌, ◌≤◌}
-use mathlib.Core.Path.{◌≡◌, refl}
-use lib.ListN.{length, take, length-set}
-use Rattle.store.specs.edits.Steps.{Put}
+use mathlib.Core.Path.{refl}
+use lib.ListN.{length-set}
 use Rattle.store.proofs.edits.Trials.{put_more, put_all}
 use borrow.Author.Rules.{rules}
 use Rattle.store.proofs.edits.copying.put.Goals as goal

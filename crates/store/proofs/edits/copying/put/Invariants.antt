@@ -1,10 +1,8 @@
 -- `store::edits::copying::put` meets its contract: one byte goes in a turn.
-use Prim.Native.Nat.{◌+◌, ◌-◌, ◌≤◌}
-use mathlib.Core.Path.{◌≡◌, refl}
-use lib.ListN.{length, take, length-set}
+use Prim.Native.Nat.{◌-◌, ◌≤◌}
+use mathlib.Core.Path.{◌≡◌}
+use lib.ListN.{length, take}
 use Rattle.store.specs.edits.Steps.{Put}
-use Rattle.store.proofs.edits.Trials.{put_more, put_all}
-use borrow.Author.Rules.{rules}
 use Rattle.store.proofs.edits.copying.put.Given as goal
 
 abbrev pub invariant-loop-i : goal.invariant-loop-i

@@ -3,7 +3,6 @@ use native.Mathlib.Omega.{arith}
 use lib.ListN.{length-take}
 use Rattle.store.proofs.edits.Good.{front_fits}
 use Rattle.store.proofs.edits.Trials.{links_accepted}
-use borrow.Author.Rules.{rules}
 use Rattle.store.proofs.edits.judging.chain_of.Goals as goal
 
 pub slice_bounds-read_chain-end : goal.slice_bounds-read_chain-end

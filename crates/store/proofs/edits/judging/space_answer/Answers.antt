@@ -5,7 +5,6 @@ use lib.ListN.{length-take}
 use Rattle.store.proofs.edits.Good.{length_within}
 use borrow.Author.Tests.{eq-eqb, ne_eqb}
 use Rattle.store.specs.edits.Edits.{space_answer}
-use borrow.Author.Rules.{rules}
 use Rattle.store.proofs.edits.judging.space_answer.Goals as goal
 
 pub returns-in-Refused : goal.returns-in-Refused

@@ -1,9 +1,6 @@
 -- `store::edits::searching::holds` meets its contract: what is left of the list holds the record or not, as the whole does.
 --
-use Prim.Native.Nat.{◌-◌, ◌≤◌}
-use mathlib.Core.Path.{◌≡◌, refl, sym, ◌∙◌}
-use lib.ListN.{length, drop}
-use Rattle.store.specs.Chain.{member}
+use mathlib.Core.Path.{refl, sym, ◌∙◌}
 use Rattle.store.proofs.edits.Searches.{held_here, held_later, held_nowhere}
 use borrow.Author.Rules.{rules}
 use Rattle.store.proofs.edits.searching.holds.Goals as goal

@@ -1,11 +1,9 @@
 -- `store::edits::searching::holds` meets its contract: what is left of the list holds the record or not, as the whole does.
 --
 use Prim.Native.Nat.{◌-◌, ◌≤◌}
-use mathlib.Core.Path.{◌≡◌, refl, sym, ◌∙◌}
+use mathlib.Core.Path.{◌≡◌}
 use lib.ListN.{length, drop}
 use Rattle.store.specs.Chain.{member}
-use Rattle.store.proofs.edits.Searches.{held_here, held_later, held_nowhere}
-use borrow.Author.Rules.{rules}
 use Rattle.store.proofs.edits.searching.holds.Given as goal
 
 abbrev pub invariant-loop-i : goal.invariant-loop-i

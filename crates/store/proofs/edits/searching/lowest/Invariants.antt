@@ -1,12 +1,8 @@
 -- `store::edits::searching::lowest` meets its contract: the search goes on from m as it would from 0, by the marks.
-use Prim.Native.Nat.{◌-◌, ◌<◌, ◌≤◌}
-use native.Mathlib.Nat.{sub-zero}
-use native.Mathlib.Omega.{arith}
-use mathlib.Core.Path.{◌≡◌, refl, sym, ◌∙◌}
+use Prim.Native.Nat.{◌-◌, ◌≤◌}
+use mathlib.Core.Path.{◌≡◌}
 use Rattle.store.specs.edits.Written.{lowest_from}
 use Rattle.store.specs.edits.Steps.{Marked}
-use Rattle.store.proofs.edits.Searches.{lowest_later, lowest_here, lowest_end}
-use borrow.Author.Rules.{rules}
 use Rattle.store.proofs.edits.searching.lowest.Given as goal
 
 abbrev pub invariant-loop-m : goal.invariant-loop-m

@@ -1,9 +1,6 @@
 -- `store::edits::searching::marks_of` meets its contract: one record gets its mark in a turn.
-use Prim.Native.Nat.{◌-◌}
 use native.Mathlib.Omega.{arith}
-use lib.ListN.{length}
-use Rattle.store.proofs.edits.Searches.{MarkedTo, none_marked, one_small, one_marked, all_marked}
-use borrow.Author.Rules.{rules}
+use Rattle.store.proofs.edits.Searches.{none_marked, one_small, one_marked, all_marked}
 use Rattle.store.proofs.edits.searching.marks_of.Goals as goal
 
 pub loop-i-init : goal.loop-i-init

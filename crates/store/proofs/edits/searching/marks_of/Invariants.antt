@@ -1,9 +1,7 @@
 -- `store::edits::searching::marks_of` meets its contract: one record gets its mark in a turn.
 use Prim.Native.Nat.{◌-◌}
-use native.Mathlib.Omega.{arith}
 use lib.ListN.{length}
-use Rattle.store.proofs.edits.Searches.{MarkedTo, none_marked, one_small, one_marked, all_marked}
-use borrow.Author.Rules.{rules}
+use Rattle.store.proofs.edits.Searches.{MarkedTo}
 use Rattle.store.proofs.edits.searching.marks_of.Given as goal
 
 abbrev pub invariant-loop-i : goal.invariant-loop-i

@@ -1,7 +1,6 @@
 -- `store::reader::radii::below_axis` meets its contract.
 use borrow.Author.Tests.{eq-eqb, ne_eqb}
 use Rattle.store.specs.Radii.{below_axis}
-use borrow.Author.Rules.{rules}
 use Rattle.store.proofs.reader.radii.below_axis.Goals as goal
 
 pub returns-then-kind_of-eq1 : goal.returns-then-kind_of-eq1

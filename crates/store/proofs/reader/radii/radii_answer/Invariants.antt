@@ -1,10 +1,8 @@
 -- `store::reader::radii::radii_answer` meets its contract: what is left to look at gives the answer.
 use Prim.Native.Nat.{◌-◌, ◌≤◌}
-use mathlib.Core.Path.{◌≡◌, refl, sym, ◌∙◌}
+use mathlib.Core.Path.{◌≡◌}
 use lib.ListN.{length, drop}
 use Rattle.store.specs.Radii.{radii_answer}
-use Rattle.store.proofs.Lists.{first_more, first_found, first_end}
-use borrow.Author.Rules.{rules}
 use Rattle.store.proofs.reader.radii.radii_answer.Given as goal
 
 abbrev pub invariant-loop-i : goal.invariant-loop-i

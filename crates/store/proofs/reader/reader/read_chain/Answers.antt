@@ -3,7 +3,6 @@ use mathlib.Core.Path.{sym, ◌∙◌}
 use Rattle.store.specs.Store.{chained}
 use Rattle.store.proofs.Filling.{fills_sooner, fills_later}
 use Rattle.store.proofs.Reading.{length_accepted}
-use borrow.Author.Rules.{rules}
 use Rattle.store.proofs.reader.reader.read_chain.Goals as goal
 
 pub follow_chain-requires : goal.follow_chain-requires

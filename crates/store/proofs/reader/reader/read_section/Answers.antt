@@ -1,7 +1,6 @@
 -- `store::reader::reader::read_section` meets its contract.
 use mathlib.Core.Path.{sym, ◌∙◌}
 use Rattle.store.proofs.Filling.{fills_sooner, fills_later}
-use borrow.Author.Rules.{rules}
 use Rattle.store.proofs.reader.reader.read_section.Goals as goal
 
 pub returns-in-Refused : goal.returns-in-Refused

@@ -3,7 +3,6 @@ use native.Mathlib.Omega.{arith}
 use lib.ListN.{length-set}
 use borrow.Author.Tests.{eq-eqb, ne_eqb}
 use Rattle.store.proofs.Gathering.{adds_nothing, adds_no_room, adds_vertex}
-use borrow.Author.Rules.{rules}
 use Rattle.store.proofs.reader.vertices.add_vertex.Goals as goal
 
 pub bounds-space-n-then-n-lt256 : goal.bounds-space-n-then-n-lt256

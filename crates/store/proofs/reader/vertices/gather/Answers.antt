@@ -1,8 +1,5 @@
 -- `store::reader::vertices::gather`. The vertices of one record are put in a turn.
-use Prim.Native.Nat.{◌-◌}
-use lib.ListN.{length}
-use Rattle.store.proofs.Gathering.{Gathered, gathers, none_gathered, all_gathered}
-use borrow.Author.Rules.{rules}
+use Rattle.store.proofs.Gathering.{gathers, none_gathered, all_gathered}
 use Rattle.store.proofs.reader.vertices.gather.Goals as goal
 
 pub loop-i-init : goal.loop-i-init

@@ -1,8 +1,7 @@
 -- `store::reader::vertices::gather`. The vertices of one record are put in a turn.
 use Prim.Native.Nat.{◌-◌}
 use lib.ListN.{length}
-use Rattle.store.proofs.Gathering.{Gathered, gathers, none_gathered, all_gathered}
-use borrow.Author.Rules.{rules}
+use Rattle.store.proofs.Gathering.{Gathered}
 use Rattle.store.proofs.reader.vertices.gather.Given as goal
 
 abbrev pub invariant-loop-i : goal.invariant-loop-i

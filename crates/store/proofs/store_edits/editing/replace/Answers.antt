@@ -4,7 +4,6 @@ use mathlib.Core.Path.{sym, ◌∙◌}
 use lib.ListN.{length-take}
 use Rattle.store.proofs.edits.Good.{front_fits}
 use Rattle.store.proofs.edits.Decided.{right_space, chained_small, replace_24, replace_22, replace_done}
-use borrow.Author.Rules.{rules}
 use Rattle.store.proofs.store_edits.editing.replace.Goals as goal
 
 pub slice_bounds-holds-end : goal.slice_bounds-holds-end

@@ -1,7 +1,5 @@
 -- `store::store_edits::trying::ending` meets its contract: one byte goes in a turn, from the fifth on.
-use Prim.Native.Nat.{◌-◌}
-use Rattle.store.proofs.edits.Trials.{Ending, ending_starts, ending_more, ending_all}
-use borrow.Author.Rules.{rules}
+use Rattle.store.proofs.edits.Trials.{ending_starts, ending_more, ending_all}
 use Rattle.store.proofs.store_edits.trying.ending.Goals as goal
 
 pub loop-i-init : goal.loop-i-init

@@ -1,7 +1,6 @@
 -- `store::store_edits::trying::ending` meets its contract: one byte goes in a turn, from the fifth on.
 use Prim.Native.Nat.{◌-◌}
-use Rattle.store.proofs.edits.Trials.{Ending, ending_starts, ending_more, ending_all}
-use borrow.Author.Rules.{rules}
+use Rattle.store.proofs.edits.Trials.{Ending}
 use Rattle.store.proofs.store_edits.trying.ending.Given as goal
 
 abbrev pub invariant-loop-i : goal.invariant-loop-i

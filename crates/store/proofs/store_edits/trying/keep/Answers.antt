@@ -1,7 +1,6 @@
 -- `store::store_edits::trying::keep` meets its contract.
 use mathlib.Core.Path.{sym, ◌∙◌}
 use Rattle.store.proofs.edits.Trials.{copied, trial_refused, trial_kept}
-use borrow.Author.Rules.{rules}
 use Rattle.store.proofs.store_edits.trying.keep.Goals as goal
 
 pub returns-in-Refused : goal.returns-in-Refused

@@ -1,6 +1,5 @@
 -- `store::store_edits::trying::length_with` meets its contract.
 use borrow.Author.Tests.{le-ltb, lt-ltb}
-use borrow.Author.Rules.{rules}
 use Rattle.store.proofs.store_edits.trying.length_with.Goals as goal
 
 pub returns-then-m-n : goal.returns-then-m-n

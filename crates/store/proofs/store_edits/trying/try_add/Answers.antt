@@ -1,7 +1,6 @@
 -- `store::store_edits::trying::try_add` meets its contract.
 use native.Mathlib.Omega.{arith}
 use Rattle.store.proofs.edits.Trials.{added_tried}
-use borrow.Author.Rules.{rules}
 use Rattle.store.proofs.store_edits.trying.try_add.Goals as goal
 
 pub returns : goal.returns

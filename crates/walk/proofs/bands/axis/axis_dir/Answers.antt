@@ -1,6 +1,5 @@
 -- `walk::bands::axis::axis_dir` meets its contract.
 use Rattle.walk.specs.bands.Axis.{axis_dir}
-use borrow.Author.Rules.{rules}
 use Rattle.walk.proofs.bands.axis.axis_dir.Goals as goal
 
 pub returns-then-len : goal.returns-then-len

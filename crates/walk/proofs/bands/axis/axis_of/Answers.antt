@@ -1,6 +1,5 @@
 -- `walk::bands::axis::axis_of` meets its contract.
 use Rattle.walk.specs.bands.Axis.{axis}
-use borrow.Author.Rules.{rules}
 use Rattle.walk.proofs.bands.axis.axis_of.Goals as goal
 
 pub returns-then-z-most : goal.returns-then-z-most

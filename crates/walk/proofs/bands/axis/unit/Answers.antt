@@ -1,5 +1,4 @@
 -- `walk::bands::axis::unit` meets its contract.
-use borrow.Author.Rules.{rules}
 use Rattle.walk.proofs.bands.axis.unit.Goals as goal
 
 pub returns : goal.returns

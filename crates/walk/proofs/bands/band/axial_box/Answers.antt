@@ -1,6 +1,5 @@
 -- `walk::bands::band::axial_box` meets its contract.
 use Rattle.walk.specs.bands.Band.{axial_box}
-use borrow.Author.Rules.{rules}
 use Rattle.walk.proofs.bands.band.axial_box.Goals as goal
 
 pub returns : goal.returns

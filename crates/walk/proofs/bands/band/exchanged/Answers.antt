@@ -1,5 +1,4 @@
 -- `walk::bands::band::exchanged` meets its contract.
-use borrow.Author.Rules.{rules}
 use Rattle.walk.proofs.bands.band.exchanged.Goals as goal
 
 pub returns : goal.returns

@@ -1,5 +1,4 @@
 -- `walk::bands::band::greatest_radius` meets its contract: where the ends are in order, the farthest corner has it.
-use borrow.Author.Rules.{rules}
 use lib.Ieee.{binary64}
 use Rattle.arith.proofs.Laws.HypotCorner.{farthest_corner}
 use Rattle.walk.proofs.bands.band.greatest_radius.Goals as goal

@@ -1,5 +1,4 @@
 -- `walk::bands::band::radius_span` meets its contract.
-use borrow.Author.Rules.{rules}
 use Rattle.walk.proofs.bands.band.radius_span.Goals as goal
 
 pub returns : goal.returns

@@ -1,6 +1,5 @@
 -- `walk::cylinders::queries::cylinder_distance` meets its contract: by the axis.
 use Rattle.walk.specs.cylinders.Cylinders.{cylinder_distance}
-use borrow.Author.Rules.{rules}
 use Rattle.walk.proofs.cylinders.queries.cylinder_distance.Goals as goal
 
 pub query_radial-requires : goal.query_radial-requires

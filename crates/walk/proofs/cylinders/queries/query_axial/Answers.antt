@@ -1,5 +1,4 @@
 -- `walk::cylinders::queries::query_axial` meets its contract.
-use borrow.Author.Rules.{rules}
 use Rattle.walk.proofs.cylinders.queries.query_axial.Goals as goal
 
 pub returns : goal.returns

@@ -1,5 +1,4 @@
 -- `walk::cylinders::queries::query_cylinder` meets its contract: the number or the hit, and demands 1 and 3 of it.
-use borrow.Author.Rules.{rules}
 use Rattle.section.proofs.profile.Replies.{answered, refused}
 use Rattle.walk.specs.settings.Settings.{settings_tests}
 use Rattle.walk.specs.cylinders.Cylinders.{cylinder_answer}

@@ -1,5 +1,4 @@
 -- `walk::cylinders::queries::query_radial` meets its contract.
-use borrow.Author.Rules.{rules}
 use Rattle.walk.proofs.cylinders.queries.query_radial.Goals as goal
 
 pub band_distance-requires : goal.band_distance-requires

@@ -1,5 +1,4 @@
 -- `walk::cylinders::refusal::cylinder_check` meets its contract.
-use borrow.Author.Rules.{rules}
 use Rattle.walk.proofs.cylinders.refusal.cylinder_check.Goals as goal
 
 pub cylinder_refusal-requires : goal.cylinder_refusal-requires

@@ -1,5 +1,4 @@
 -- `walk::cylinders::refusal::cylinder_refusal` meets its contract: the numbers of its own parameter are f64.
-use borrow.Author.Rules.{rules}
 use Rattle.section.specs.profile.Refusals.{given_tests, axis_tests}
 use Rattle.section.proofs.profile.Refusals.Ordered.{own_after}
 use Rattle.walk.proofs.cylinders.Given.{f64s}

@@ -1,5 +1,4 @@
 -- `walk::cylinders::refusal::own_refusal` meets its contract.
-use borrow.Author.Rules.{rules}
 use Rattle.section.specs.profile.Refusals.{refusal}
 use Rattle.walk.proofs.cylinders.refusal.own_refusal.Goals as goal
 

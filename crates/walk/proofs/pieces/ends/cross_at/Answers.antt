@@ -1,5 +1,4 @@
 -- `walk::pieces::ends::cross_at` meets its contract.
-use borrow.Author.Rules.{rules}
 use Rattle.walk.proofs.pieces.ends.cross_at.Goals as goal
 
 pub returns : goal.returns

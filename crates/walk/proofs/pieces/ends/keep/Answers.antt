@@ -1,6 +1,5 @@
 -- `walk::pieces::ends::keep`. Three stores above what is kept below place k.
 use Rattle.walk.proofs.pieces.KnownEnds.{keeps}
-use borrow.Author.Rules.{rules}
 use Rattle.walk.proofs.pieces.ends.keep.Goals as goal
 
 pub returns : goal.returns

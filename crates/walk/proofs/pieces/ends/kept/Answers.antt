@@ -1,6 +1,5 @@
 -- `walk::pieces::ends::kept` meets its contract.
 use mathlib.Core.Path.{refl}
-use borrow.Author.Rules.{rules}
 use Rattle.walk.proofs.pieces.ends.kept.Goals as goal
 
 pub returns : goal.returns

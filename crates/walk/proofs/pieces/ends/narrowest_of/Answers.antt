@@ -1,6 +1,5 @@
 -- `walk::pieces::ends::narrowest_of` meets its contract.
 use Rattle.walk.proofs.pieces.KnownEnds.{narrowest_left, narrowest_right}
-use borrow.Author.Rules.{rules}
 use Rattle.walk.proofs.pieces.ends.narrowest_of.Goals as goal
 
 pub returns-then-left-right : goal.returns-then-left-right

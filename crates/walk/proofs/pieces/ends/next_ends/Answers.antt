@@ -1,6 +1,5 @@
 -- `walk::pieces::ends::next_ends`. The right half is taken next, or the piece below.
 use Rattle.walk.proofs.pieces.KnownEnds.{next_half, next_none, next_below}
-use borrow.Author.Rules.{rules}
 use Rattle.walk.proofs.pieces.ends.next_ends.Goals as goal
 
 pub returns-then-halve : goal.returns-then-halve

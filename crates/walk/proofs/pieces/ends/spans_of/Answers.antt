@@ -1,5 +1,4 @@
 -- `walk::pieces::ends::spans_of` meets its contract.
-use borrow.Author.Rules.{rules}
 use Rattle.walk.proofs.pieces.ends.spans_of.Goals as goal
 
 pub returns : goal.returns

@@ -1,6 +1,5 @@
 -- `walk::pieces::ends::widest_of` meets its contract.
 use Rattle.walk.proofs.pieces.KnownEnds.{widest_left, widest_right, widest_middle}
-use borrow.Author.Rules.{rules}
 use Rattle.walk.proofs.pieces.ends.widest_of.Goals as goal
 
 pub returns-then-zc-p : goal.returns-then-zc-p

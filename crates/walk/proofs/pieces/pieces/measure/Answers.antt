@@ -1,6 +1,5 @@
 -- `walk::pieces::pieces::measure` meets its contract.
 use Rattle.walk.specs.pieces.Pieces.{piece_box, variation}
-use borrow.Author.Rules.{rules}
 use Rattle.walk.proofs.pieces.pieces.measure.Goals as goal
 
 pub returns : goal.returns

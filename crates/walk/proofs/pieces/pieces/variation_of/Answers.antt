@@ -1,5 +1,4 @@
 -- `walk::pieces::pieces::variation_of` meets its contract.
-use borrow.Author.Rules.{rules}
 use Rattle.walk.proofs.pieces.pieces.variation_of.Goals as goal
 
 pub returns : goal.returns

@@ -4,7 +4,6 @@ use native.Mathlib.Omega.{arith}
 use mathlib.Core.Path.{refl}
 use lib.ListN.{length-set}
 use Rattle.walk.proofs.pieces.Stored.{pieces_push}
-use borrow.Author.Rules.{rules}
 use Rattle.walk.proofs.pieces.waiting.push.Goals as goal
 
 pub returns : goal.returns

@@ -1,6 +1,5 @@
 -- `walk::walker::walker::band_distance`. One box of a line, otherwise the walk.
 use Rattle.walk.specs.Walk.{band_distance}
-use borrow.Author.Rules.{rules}
 use Rattle.walk.proofs.walker.walker.band_distance.Goals as goal
 
 pub returns-then-b : goal.returns-then-b

@@ -1,5 +1,4 @@
 -- `walk::walker::walker::better` meets its contract.
-use borrow.Author.Rules.{rules}
 use Rattle.walk.proofs.walker.walker.better.Goals as goal
 
 pub returns-then-dropped : goal.returns-then-dropped

@@ -1,5 +1,4 @@
 -- `walk::walker::walker::thin_box` meets its contract.
-use borrow.Author.Rules.{rules}
 use Rattle.walk.proofs.walker.walker.thin_box.Goals as goal
 
 pub returns : goal.returns

@@ -1,10 +1,8 @@
 -- `walk::walker::walker::walk_with`. Array and locals are a state of the definition's walk, from start to end.
-use Prim.Native.Nat.{◌-◌}
 use native.Mathlib.Omega.{arith}
 use mathlib.Core.Path.{refl, ◌∙◌}
-use Rattle.walk.proofs.pieces.KnownEnds.{Held, held_first, taken, held_next}
-use Rattle.walk.proofs.Loop.{State, begun, ended, cut_short, has_box, has_room, turned}
-use borrow.Author.Rules.{rules}
+use Rattle.walk.proofs.pieces.KnownEnds.{held_first, taken, held_next}
+use Rattle.walk.proofs.Loop.{begun, ended, cut_short, has_box, has_room, turned}
 use Rattle.walk.proofs.walker.walker.walk_with.Goals as goal
 
 pub loop-n-init : goal.loop-n-init

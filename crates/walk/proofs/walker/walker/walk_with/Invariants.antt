@@ -1,10 +1,7 @@
 -- `walk::walker::walker::walk_with`. Array and locals are a state of the definition's walk, from start to end.
 use Prim.Native.Nat.{◌-◌}
-use native.Mathlib.Omega.{arith}
-use mathlib.Core.Path.{refl, ◌∙◌}
-use Rattle.walk.proofs.pieces.KnownEnds.{Held, held_first, taken, held_next}
-use Rattle.walk.proofs.Loop.{State, begun, ended, cut_short, has_box, has_room, turned}
-use borrow.Author.Rules.{rules}
+use Rattle.walk.proofs.pieces.KnownEnds.{Held}
+use Rattle.walk.proofs.Loop.{State}
 use Rattle.walk.proofs.walker.walker.walk_with.Given as goal
 
 abbrev pub invariant-loop-n : goal.invariant-loop-n

@@ -1,6 +1,5 @@
 -- `walk::bands::shapes::RadialBand::from_cylinder` meets its contract.
 use Rattle.walk.specs.bands.Band.{band_of}
-use borrow.Author.Rules.{rules}
 use Rattle.walk.proofs.bands.shapes.RadialBand.from_cylinder.Goals as goal
 
 pub returns : goal.returns

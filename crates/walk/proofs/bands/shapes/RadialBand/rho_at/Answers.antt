@@ -1,6 +1,5 @@
 -- `walk::bands::shapes::RadialBand::rho_at` meets its contract.
 use Rattle.walk.specs.bands.Band.{half_width}
-use borrow.Author.Rules.{rules}
 use Rattle.walk.proofs.bands.shapes.RadialBand.rho_at.Goals as goal
 
 pub returns-then-value : goal.returns-then-value

@@ -1,6 +1,5 @@
 -- `walk::bands::shapes::RadialBand::span_at_z` meets its contract.
 use Rattle.walk.specs.bands.Band.{span_at}
-use borrow.Author.Rules.{rules}
 use Rattle.walk.proofs.bands.shapes.RadialBand.span_at_z.Goals as goal
 
 pub returns : goal.returns

@@ -1,19 +1,17 @@
--- What is promised on the array's front is promised on the flattened list. Of more than 256 vertices that is number 3, since the
--- count of numbers is even and not small. By the table's first three tests.
-use Prim.Native.Nat.{ℕ, ◌*◌, ◌%◌, ◌<◌, ◌≤◌}
+-- More than 256 vertices are turned down under number 3, by the definitions too: the count of their numbers is even and not small.
+-- By the table's first three tests.
+use Prim.Native.Nat.{◌*◌, ◌%◌, ◌<◌}
 use native.Mathlib.Omega.{arith}
 use mathlib.Core.Bool.{true, false}
 use mathlib.Core.List.{List, [], ◌∷◌, ◌++◌}
-use mathlib.Core.Logic.{◌⊎◌, inl, inr}
-use mathlib.Core.Path.{◌≡◌, refl, sym, ◌∙◌, ap, subst}
-use lib.ListN.{length, take}
-use lib.Seq.{take_all}
+use mathlib.Core.Path.{◌≡◌, refl, ap}
+use lib.ListN.{length}
 use lib.Ieee.{Float}
 use borrow.Author.Tests.{ne_eqb, le-ltb, lt-ltb}
 use Rattle.arith.specs.declared.vector.Vec3.{Vec3}
-use Rattle.arith.proofs.roots.Numbers.{decide}
 use Rattle.section.specs.Answers.{point_answer, sphere_answer, box_answer}
 use Rattle.section.specs.profile.Refusals.{Test, refusal, any_of, odd, fewer, more, given_tests}
+use Rattle.section.specs.profile.Replies.{turned_down}
 use Rattle.section.specs.profile.Vertices.{count}
 use Rattle.section.specs.declared.profile.shapes.Aabb.{Aabb}
 use Rattle.section.specs.declared.shapes.Answer.TheVariants as answers
@@ -21,10 +19,14 @@ use Rattle.section.specs.declared.profile.shapes.Sphere.{Sphere}
 use Rattle.section.specs.declared.profile.shapes.Vertex.{Vertex}
 use Rattle.walk.specs.cylinders.Cylinders.{cylinder_answer}
 use Rattle.walk.specs.declared.bands.shapes.Cylinder.{Cylinder}
-use Rattle.walk.specs.declared.cylinders.shapes.CountedAnswer.TheVariants as cylinder-answers
+use Rattle.walk.specs.declared.cylinders.shapes.CountedAnswer.TheVariants as cylinder_answers
 use Rattle.records.specs.Flattened.{flattened}
-use Rattle.records.specs.Steps.{OfFront, OfPoint, OfSphere, OfBox, OfCylinder}
-use Rattle.records.proofs.FrontFilled.{FrontFilled}
+use Rattle.records.specs.Replies.{point_of, sphere_of, box_of, cylinder_of, c_reply, c_cylinder_reply}
+use Rattle.records.specs.Steps.{OfPoint, OfSphere, OfBox, OfCylinder, OfPlace, OfBall, OfBounds, OfBar}
+use Rattle.records.specs.declared.replies.Ball.{Ball}
+use Rattle.records.specs.declared.replies.Bar.{Bar}
+use Rattle.records.specs.declared.replies.Bounds.{Bounds}
+use Rattle.records.specs.declared.replies.Place.{Place}
 
 flattened_length : (xs : List Vertex) → length (flattened xs) ≡ 2 * length xs
 unfolding flattened
@@ -54,23 +56,19 @@ module _ (xs : List Vertex) (h : 256 < length xs) where
   unfolding box_answer
   box_too_many x = record { equal = rw (number_three _ _); owed = tt }
 
-  pub cylinder_too_many : (c : Cylinder) → OfCylinder c (flattened xs) (cylinder-answers.Refused 3)
+  pub cylinder_too_many : (c : Cylinder) → OfCylinder c (flattened xs) (cylinder_answers.Refused 3)
   unfolding cylinder_answer
   cylinder_too_many c = record { equal = rw (number_three _ _); owed = tt }
 
--- the end of the loop
-module _ (xs : List Vertex) (i : ℕ) (l : List Float) (f : FrontFilled xs i l) (h : length xs ≤ i) where
-  whole : length xs ≤ 256 → take (2 * length xs) l ≡ flattened xs
-  whole k =
-      let low : i ≤ length xs = f.low in
-      let all : i ≡ length xs = omega arith in
-      subst (λ (j : ℕ). take (2 * j) l ≡ flattened (take j xs)) all (f.front (omega arith))
-      ∙ ap flattened (take_all (length xs) xs (omega arith))
+  -- the same of the C interface's replies
+  pub place_too_many : (x : Place) → OfPlace x (flattened xs) (c_reply (turned_down 3))
+  place_too_many x = ap c_reply (point_too_many (point_of x)).equal
 
-  pub answered : {R : Type 0} (P : List Float → R → Type 0) (refused r : R) → (256 < length xs → P (flattened xs) refused)
-      → OfFront P refused l (length xs) r → P (flattened xs) r
-  answered {R} P refused r three a = by (decide (length xs) 256)
-    where
-      by : (length xs ≤ 256) ⊎ (256 < length xs) → P (flattened xs) r
-      by (inl k) = subst (λ (s : List Float). P s r) (whole k) (a.front k)
-      by (inr k) = subst (λ (x : R). P (flattened xs) x) (sym (a.many k)) (three k)
+  pub ball_too_many : (x : Ball) → OfBall x (flattened xs) (c_reply (turned_down 3))
+  ball_too_many x = ap c_reply (sphere_too_many (sphere_of x)).equal
+
+  pub bounds_too_many : (x : Bounds) → OfBounds x (flattened xs) (c_reply (turned_down 3))
+  bounds_too_many x = ap c_reply (box_too_many (box_of x)).equal
+
+  pub bar_too_many : (x : Bar) → OfBar x (flattened xs) (c_cylinder_reply (turned_down 3))
+  bar_too_many x = ap c_cylinder_reply (cylinder_too_many (cylinder_of x)).equal

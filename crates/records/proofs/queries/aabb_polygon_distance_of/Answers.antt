@@ -1,0 +1,18 @@
+-- `records::queries::aabb_polygon_distance_of` meets its contract: its loop fills the array's front, which is asked.
+use Rattle.records.specs.Steps.{OfBox}
+use Rattle.records.proofs.FrontFilled.{filled_start, filled_next, nearer, answered}
+use Rattle.records.proofs.TooMany.{box_too_many}
+use Rattle.records.proofs.queries.aabb_polygon_distance_of.Goals as goal
+
+pub loop-i-init : goal.loop-i-init
+loop-i-init c = filled_start _ c.blank-items.ensures
+
+pub loop-i-smaller : goal.loop-i-smaller
+loop-i-smaller c = nearer c.loop-i-test.true c.put-i.ensures.0
+
+pub loop-i-preserved : goal.loop-i-preserved
+loop-i-preserved c = filled_next _ c.loop-i.invariant c.loop-i-test.true c.put-i.ensures
+
+pub returns : goal.returns
+returns c =
+    answered (OfBox c.args.bounds) c.loop-i.invariant c.loop-i-test.false (λ h. box_too_many _ h _) c.box_front.ensures
