@@ -1,7 +1,7 @@
 // The verdicts: 1 collision, 0 clear.
 ghost use Rattle.arith.specs.Vector.{vec};
 ghost use Rattle.section.specs.boxes.Boxes.{aabb};
-ghost use Rattle.bodies.specs.declared.shapes.Body.TheVariants as body·kinds;
+ghost use Rattle.bodies.specs.declared.shapes.Body.TheVariants as body_kinds;
 ghost use Rattle.bodies.specs.verdicts.Verdicts.{body_verdict, convex_verdict};
 ghost use Rattle.section.specs.profile.Vertices.{ball};
 ghost use Rattle.walk.specs.bands.Band.{bar};
@@ -19,7 +19,7 @@ pub extern "C" fn jorghipa_verdict_sphere(
     clearance: f64,
     collision: &mut u32,
 ) -> u32
-    ensures { Gives mark (body_verdict section.now (body·kinds.Sphere (ball (vec x y z) radius)) clearance)
+    ensures { Gives mark (body_verdict section.now (body_kinds.Sphere (ball (vec x y z) radius)) clearance)
         result collision.old collision.new }
 {
     capi::jorghipa_verdict_sphere(section, x, y, z, radius, clearance, collision)
@@ -35,7 +35,7 @@ pub extern "C" fn jorghipa_verdict_box(
     clearance: f64,
     collision: &mut u32,
 ) -> u32
-    ensures { Gives mark (body_verdict section.now (body·kinds.Box (aabb z0 z1 r0 r1)) clearance)
+    ensures { Gives mark (body_verdict section.now (body_kinds.Box (aabb z0 z1 r0 r1)) clearance)
         result collision.old collision.new }
 {
     capi::jorghipa_verdict_box(section, z0, z1, r0, r1, clearance, collision)
@@ -55,7 +55,7 @@ pub extern "C" fn jorghipa_verdict_cylinder(
     collision: &mut u32,
 ) -> u32
     ensures { Gives mark
-        (body_verdict section.now (body·kinds.Cylinder (bar (vec ax ay az) (vec bx by bz) radius)) clearance)
+        (body_verdict section.now (body_kinds.Cylinder (bar (vec ax ay az) (vec bx by bz) radius)) clearance)
         result collision.old collision.new }
 {
     capi::jorghipa_verdict_cylinder(
