@@ -1,5 +1,5 @@
-// The C interface as a static library: each function of jorghipa.h by its C name, with the clauses of capi's function of that name,
-// which does the work.
+// The C interface as a static library: each function of jorghipa.h by its C name, with the clauses of
+// capi's function of that name, which does the work.
 #![tactic(auto)]
 
 mod assembly;
