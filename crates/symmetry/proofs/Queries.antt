@@ -61,7 +61,7 @@ module _ (s : List Float) (c : Cylinder) (t : Settings) where
 pub query_either_side : (s : List Float) (c : Cylinder) (t : Settings) → EitherSide (λ (c : Cylinder). cylinder_answer s c t) c
 query_either_side s c t =
     record {
-      mirrored_x_lem = answer_mirrored_x s c t;
-      mirrored_y_lem = answer_mirrored_y s c t;
-      half_turned_lem = answer_mirrored_y s (mirrored_x c) t ∙ answer_mirrored_x s c t;
+      mirrored_x = answer_mirrored_x s c t;
+      mirrored_y = answer_mirrored_y s c t;
+      half_turned = answer_mirrored_y s (mirrored_x c) t ∙ answer_mirrored_x s c t;
     }

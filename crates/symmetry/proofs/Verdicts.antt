@@ -89,7 +89,7 @@ pub verdict_either_side : (s : List Float) (c : Cylinder) (clearance : Float)
     → EitherSide (λ (c : Cylinder). body_verdict s (Bar c) clearance) c
 verdict_either_side s c clearance =
     record {
-      mirrored_x_lem = verdict_mirrored_x s c clearance;
-      mirrored_y_lem = verdict_mirrored_y s c clearance;
-      half_turned_lem = verdict_mirrored_y s (mirrored_x c) clearance ∙ verdict_mirrored_x s c clearance;
+      mirrored_x = verdict_mirrored_x s c clearance;
+      mirrored_y = verdict_mirrored_y s c clearance;
+      half_turned = verdict_mirrored_y s (mirrored_x c) clearance ∙ verdict_mirrored_x s c clearance;
     }

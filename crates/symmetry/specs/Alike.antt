@@ -11,9 +11,9 @@ use Rattle.symmetry.specs.Moved.{mirrored_x, mirrored_y, half_turned}
 
 -- the whole answer stays, whichever side of the spindle the setter faces
 pub record EitherSide {A : Type 0} (answer : Cylinder → A) (c : Cylinder) : Type 0 where
-  pub mirrored_x_lem : answer (mirrored_x c) ≡ answer c
-  pub mirrored_y_lem : answer (mirrored_y c) ≡ answer c
-  pub half_turned_lem : answer (half_turned c) ≡ answer c
+  pub mirrored_x : answer (mirrored_x c) ≡ answer c
+  pub mirrored_y : answer (mirrored_y c) ≡ answer c
+  pub half_turned : answer (half_turned c) ≡ answer c
 
 -- one value, or zeros of either sign
 pub data Like : Float → Float → Type 0 where

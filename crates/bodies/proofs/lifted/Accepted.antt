@@ -49,7 +49,7 @@ module _ (s : List Float) where
   with_place x y h p m q =
       record {
         plain = p;
-        placed = q (record { middle_x_lem = m.along_x_lem; middle_y_lem = m.along_y_lem; witness_z = p.z; witness_r = p.r });
+        placed = q (record { middle_x = m.along_x_lem; middle_y = m.along_y_lem; witness_z = p.z; witness_r = p.r });
       }
 
   hit_placed : (x y : Float) {r answer : Reply CollisionHit} {made : Reply LiftedHit} → Answers r answer (BoundedOffAxis s)
@@ -92,8 +92,8 @@ module _ (s : List Float) where
           plain = p;
           placed =
               q (record {
-                middle_x_lem = m.along_x_lem;
-                middle_y_lem = m.along_y_lem;
+                middle_x = m.along_x_lem;
+                middle_y = m.along_y_lem;
                 witness_z = p.bounded.z;
                 witness_r = p.bounded.r;
               });

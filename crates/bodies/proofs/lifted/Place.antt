@@ -57,10 +57,10 @@ module _ {radius x h : Float} (R : Finite 25 radius) (r : M ≤ K radius) (X : F
 module _ (x y : Float) (w : Witness) (fx : T (fits binary64 x)) (fy : T (fits binary64 y)) (fr : T (fits binary64 w.r))
     (N : Near x y w) where
   X : Finite 20 x
-  X = held_finite (at_most_given N.middle_x_lem) fx
+  X = held_finite (at_most_given N.middle_x) fx
 
   Y : Finite 20 y
-  Y = held_finite (at_most_given N.middle_y_lem) fy
+  Y = held_finite (at_most_given N.middle_y) fy
 
   given : Finite 25 w.r
   given = held_finite (at_most_given N.witness_r) fr

@@ -31,8 +31,8 @@ pub record Placed (x y : Float) (w : Witness) (p : Vec3) : Type 0 where
 
 -- a middle and a witness of this size: of every accepted query
 pub record Near (x y : Float) (w : Witness) : Type 0 where
-  pub middle_x_lem : AtMost 20 x
-  pub middle_y_lem : AtMost 20 y
+  pub middle_x : AtMost 20 x
+  pub middle_y : AtMost 20 y
   pub witness_z : AtMost 25 w.z
   pub witness_r : AtMost 25 w.r
 

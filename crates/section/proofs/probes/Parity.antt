@@ -49,9 +49,9 @@ pub record NoneInside (s : List Float) (at : Probes) : Type 0 where
 pub all_outside : {s : List Float} {at : Probes} {odd : Odd} → OddProbes s at (count s) odd → AllOutside at odd → NoneInside s at
 unfolding point_inside
 all_outside h o = record {
-  centre = off_axis_lem _ _ (sym h.centre ∙ o.centre) o.off_axis_lem.centre;
-  c00 = off_axis_lem _ _ (sym h.c00 ∙ o.c00) o.off_axis_lem.c00;
-  c10 = off_axis_lem _ _ (sym h.c10 ∙ o.c10) o.off_axis_lem.c10;
-  c11 = off_axis_lem _ _ (sym h.c11 ∙ o.c11) o.off_axis_lem.c11;
-  c01 = off_axis_lem _ _ (sym h.c01 ∙ o.c01) o.off_axis_lem.c01;
+  centre = off_axis_lem _ _ (sym h.centre ∙ o.centre) o.off_axis.centre;
+  c00 = off_axis_lem _ _ (sym h.c00 ∙ o.c00) o.off_axis.c00;
+  c10 = off_axis_lem _ _ (sym h.c10 ∙ o.c10) o.off_axis.c10;
+  c11 = off_axis_lem _ _ (sym h.c11 ∙ o.c11) o.off_axis.c11;
+  c01 = off_axis_lem _ _ (sym h.c01 ∙ o.c01) o.off_axis.c01;
 }

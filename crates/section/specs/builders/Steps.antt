@@ -46,7 +46,7 @@ three_kept vertices = cond (ltb vertices 3) (Refused 8) (Numbers (vertices * 2))
 -- what a builder promises: its answer, and the space as it leaves it
 pub record Builds (answer : Reply ℕ) (kept space : List Float) (r : Kept) (after : List Float) : Type 0 where
   pub equal : told r ≡ answer
-  pub space_after_lem : after ≡ filled kept space
+  pub space_after : after ≡ filled kept space
 
 -- how many numbers are handed back
 abbrev pub numbers_of : Kept → ℕ

@@ -39,7 +39,7 @@ pub record OffAxis (at : Probes) : Type 0 where
 
 -- and none is odd
 pub record AllOutside (at : Probes) (odd : Odd) : Type 0 where
-  pub off_axis_lem : OffAxis at
+  pub off_axis : OffAxis at
   pub centre : odd.centre ≡ false
   pub c00 : odd.c00 ≡ false
   pub c10 : odd.c10 ≡ false

@@ -6,4 +6,4 @@ use Rattle.capi.proofs.building.jorghipa_build_polygon.Goals as goal
 pub returns : goal.returns
 returns c =
     let built = c.write_polygon-answer.ensures in
-    record { gives = gives built.equal c.give_count.ensures; space_place = built.space_after_lem }
+    record { gives = gives built.equal c.give_count.ensures; space_place = built.space_after }

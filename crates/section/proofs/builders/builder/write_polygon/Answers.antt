@@ -18,9 +18,9 @@ push_polygon-requires c =
 pub returns-in-Refused : goal.returns-in-Refused
 returns-in-Refused c =
     let e = c.check_polygon-answer.ensures in
-    record { equal = e; space_after_lem = polygon_stays _ _ (ap told (sym c.in-Refused.is) ∙ e) }
+    record { equal = e; space_after = polygon_stays _ _ (ap told (sym c.in-Refused.is) ∙ e) }
 
 pub returns-in-Numbers : goal.returns-in-Numbers
 returns-in-Numbers c =
     let answer = ap told (sym c.in-Numbers.is) ∙ c.check_polygon-answer.ensures in
-    record { equal = answer; space_after_lem = c.push_polygon.ensures.1 ∙ polygon_written _ _ answer }
+    record { equal = answer; space_after = c.push_polygon.ensures.1 ∙ polygon_written _ _ answer }

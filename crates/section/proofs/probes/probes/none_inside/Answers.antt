@@ -19,7 +19,7 @@ returns-then-odd-5 c = λ t. absurd (true→T t)
 
 pub returns : goal.returns
 returns c = λ t. record {
-  off_axis_lem = c.off_axis.ensures t;
+  off_axis = c.off_axis.ensures t;
   centre = c.if-odd.false;
   c00 = c.if-odd-2.false;
   c10 = c.if-odd-3.false;
