@@ -20,7 +20,7 @@ fn main() {
         let archive = place.join(format!("lib{name}.a"));
         println!("cargo::rerun-if-changed={}", archive.display());
         if !archive.exists() {
-            println!("cargo::error={} is missing: run `rt staticlib {name}`, or set JORGHIPA_LIB", archive.display());
+            println!("cargo::error={} is missing: run `tools/archives {name}`, or set JORGHIPA_LIB", archive.display());
             return;
         }
         println!("cargo::rustc-link-lib=static={name}");

@@ -17,41 +17,46 @@ Jorghipa {version}: what the exported functions promise
 First every function that the archives export, with its contract; then the definitions that the contracts cite, and those that
 these cite in turn, file by file as the prover read them, the lowest crates first.
 
-`ensures {{ λ r. P }}` says that P holds of the returned value r for every argument. `now (x .entry)` is what stands at x when the
-call begins, `now (x .exit)` what stands there when it ends. A slice `&[T]` is in C a pointer and a count, `&mut T` a pointer.
-What is used from Prim, mathlib and lib belongs to the kit: whole numbers, lists, equality; lib.Ieee has IEEE 754's floats.
+`ensures {{ P }}` says that P holds for every argument, where `result` is the returned value. `x.now` is what stands at a shared
+reference x; `x.old` is what stands at x when the call begins, `x.new` what stands there when it ends. A slice `&[T]` is in C a
+pointer and a count, `&mut T` a pointer. What is used from Rattle.std, Prim, mathlib and lib belongs to the kit: whole numbers,
+lists, equality; Rattle.std.specs.Float and lib.Ieee have IEEE 754's floats.
 The headers say the same in words; docs/SCOPE.md says it in full.
 """
 
-USE = re.compile(r"^(?:ghost )?use Rattle·(\w+?)(?:·specs)?\.specs\.([\w.-]+?)(?:\.\{(.*)\}| as (\S+?))?;?$", re.M)
-EXPORTED = re.compile(r"((?:^//.*\n)*)^#\[no_mangle\]\n(pub extern \"C\" fn \w+[\s\S]*?)\n\{\n", re.M)
+USE = re.compile(r"^(?:ghost )?use Rattle\.(\w+)\.specs\.([\w.-]+?)(?:\.\{(.*)\}| as (\S+?))?;?$", re.M)
+MARK = "#[unsafe(no_mangle)]"
+EXPORTED = re.compile(rf"((?:^//.*\n)*)^{re.escape(MARK)}\n(pub extern \"C\" fn \w+[\s\S]*?)\n\{{\n", re.M)
 
 
 def crates():
     """The crates in their order, each above those that it stands on."""
     lines = (ROOT / "crates.txt").read_text().splitlines()
-    return [line.split(":")[0] for line in lines if ":" in line and not line.startswith("#")]
+    return [line.split(":")[0].split()[0] for line in lines if ":" in line and not line.startswith("#")]
 
 
 def exported():
-    """(crate, text, what it cites) of every function that C can call; an archive has those of its own crate alone."""
-    for crate in ARCHIVES:
-        for path in sorted((ROOT / "crates" / crate / "src").glob("*.rt")):
+    """(archive, text, what it cites) of every function that C can call: those of the archive's own crate, NAME_c."""
+    for archive in ARCHIVES:
+        sources = sorted((ROOT / "crates" / f"{archive}_c" / "src").glob("*.rt"))
+        if not sources:
+            sys.exit(f"crates/{archive}_c has no sources")
+        for path in sources:
             source = path.read_text()
             found = EXPORTED.findall(source)
-            if len(found) != source.count("#[no_mangle]"):
+            if len(found) != source.count(MARK):
                 sys.exit(f"{path}: an exported function that is not in the form that is looked for")
             for comment, text in found:
-                yield crate, comment + text, cited(source, set(re.split(r"[\s()⌜⌝{}λ,;]+", text)))
+                yield archive, comment + text, cited(source, set(re.split(r"[\s()⌜⌝{}λ,;]+", text)))
 
 
 def cited(source, words=None):
     """The (crate, module) pairs that a source uses; with words, only those of which a name, or `alias.name`, is among them."""
     heads = None if words is None else words | {word.split(".")[0] for word in words}
-    found = []
+    ours, found = crates(), []
     for crate, module, names, alias in USE.findall(source):
         offered = {name.split(" as ")[-1].strip() for name in names.split(",")} if names else {alias}
-        if heads is None or offered & heads:
+        if crate in ours and (heads is None or offered & heads):
             found.append((crate, module))
     return found
 

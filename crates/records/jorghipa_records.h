@@ -27,7 +27,7 @@
  * Pointers   valid for their count, aligned, and not null even at count 0
  * Floats     rounded to nearest, subnormals kept, all traps masked; which flags are raised is said in jorghipa.h
  * Machine    x86-64, ELF, the System V calling convention
- * Stack      in bytes, whatever is asked: a point or a sphere 5,400, a box 6,700, a bar 9,600; the vertices are copied there
+ * Stack      in bytes, whatever is asked: a point or a sphere 5,400, a box 6,700, a bar 9,800; the vertices are copied there
  * Time       that of the query of jorghipa.h
  */
 #ifndef JORGHIPA_RECORDS_H

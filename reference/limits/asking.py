@@ -54,7 +54,7 @@ def library():
     place = os.environ.get("JORGHIPA_LIB", os.path.join(HERE, "..", "..", "target", "staticlib"))
     archive = os.path.join(place, "libcapi.a")
     if not os.path.exists(archive):
-        raise SystemExit(archive + " is missing: run rt staticlib capi at the top of the repository")
+        raise SystemExit(archive + " is missing: run tools/archives capi at the top of the repository")
     with tempfile.TemporaryDirectory() as directory:
         shared = os.path.join(directory, "jorghipa.so")
         subprocess.run(["cc", "-shared", "-o", shared, "-Wl,--whole-archive", archive, "-Wl,--no-whole-archive"], check=True)

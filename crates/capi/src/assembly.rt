@@ -2,8 +2,7 @@
 ghost use Rattle.capi.specs.handing.Interface.{Gives, mark};
 ghost use Rattle.capi.specs.Calls.{any_hit_of};
 
-#[unsafe(no_mangle)]
-pub extern "C" fn jorghipa_any_hit(
+pub fn jorghipa_any_hit(
     section: &[f64],
     kinds: &[u32],
     numbers: &[f64],

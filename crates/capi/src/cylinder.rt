@@ -9,8 +9,7 @@ ghost use Rattle.capi.specs.handing.Interface.{Measures, places, counts, both, c
 use arith::Vec3;
 use walk::{Cylinder, Settings};
 
-#[unsafe(no_mangle)]
-pub extern "C" fn jorghipa_cylinder(
+pub fn jorghipa_cylinder(
     section: &[f64],
     ax: f64,
     ay: f64,

@@ -9,8 +9,7 @@ ghost use Rattle.capi.specs.handing.Interface.{Measures, places, hit_places};
 use arith::Vec3;
 use section::Sphere;
 
-#[unsafe(no_mangle)]
-pub extern "C" fn jorghipa_point(
+pub fn jorghipa_point(
     section: &[f64],
     x: f64,
     y: f64,
@@ -28,8 +27,7 @@ pub extern "C" fn jorghipa_point(
     crate::handing::give(answer, distance, witness_z, witness_radius, edge)
 }
 
-#[unsafe(no_mangle)]
-pub extern "C" fn jorghipa_sphere(
+pub fn jorghipa_sphere(
     section: &[f64],
     x: f64,
     y: f64,
@@ -50,8 +48,7 @@ pub extern "C" fn jorghipa_sphere(
     crate::handing::give(answer, distance, witness_z, witness_radius, edge)
 }
 
-#[unsafe(no_mangle)]
-pub extern "C" fn jorghipa_box(
+pub fn jorghipa_box(
     section: &[f64],
     z0: f64,
     z1: f64,
@@ -70,8 +67,7 @@ pub extern "C" fn jorghipa_box(
     crate::handing::give(answer, distance, witness_z, witness_radius, edge)
 }
 
-#[unsafe(no_mangle)]
-pub extern "C" fn jorghipa_convex(
+pub fn jorghipa_convex(
     convex: &[f64],
     section: &[f64],
     distance: &mut f64,

@@ -7,8 +7,7 @@ ghost use Rattle.capi.specs.Reading.{ReadsStore};
 
 use store::{Place, StoreAnswer};
 
-#[unsafe(no_mangle)]
-pub extern "C" fn jorghipa_replace(
+pub fn jorghipa_replace(
     space: &mut [u8],
     length: usize,
     role: u32,
@@ -30,8 +29,7 @@ pub extern "C" fn jorghipa_replace(
     )
 }
 
-#[unsafe(no_mangle)]
-pub extern "C" fn jorghipa_add(
+pub fn jorghipa_add(
     space: &mut [u8],
     length: usize,
     role: u32,
@@ -46,8 +44,7 @@ pub extern "C" fn jorghipa_add(
 }
 
 // The record is written where the store is refused: the K of the listing.
-#[unsafe(no_mangle)]
-pub extern "C" fn jorghipa_read_store(store: &[u8], record: &mut u32) -> u32
+pub fn jorghipa_read_store(store: &[u8], record: &mut u32) -> u32
     ensures { ReadsStore (store_answer store.now) result «record».old «record».new }
 {
     let answer = store::read_store(store);

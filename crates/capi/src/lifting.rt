@@ -14,8 +14,7 @@ use arith::Vec3;
 use section::Sphere;
 use walk::Cylinder;
 
-#[unsafe(no_mangle)]
-pub extern "C" fn jorghipa_lifted_point(
+pub fn jorghipa_lifted_point(
     section: &[f64],
     x: f64,
     y: f64,
@@ -37,8 +36,7 @@ pub extern "C" fn jorghipa_lifted_point(
     crate::handing::give_lifted(answer, distance, witness_x, witness_y, witness_z, edge)
 }
 
-#[unsafe(no_mangle)]
-pub extern "C" fn jorghipa_lifted_sphere(
+pub fn jorghipa_lifted_sphere(
     section: &[f64],
     x: f64,
     y: f64,
@@ -62,8 +60,7 @@ pub extern "C" fn jorghipa_lifted_sphere(
     crate::handing::give_lifted(answer, distance, witness_x, witness_y, witness_z, edge)
 }
 
-#[unsafe(no_mangle)]
-pub extern "C" fn jorghipa_lifted_cylinder(
+pub fn jorghipa_lifted_cylinder(
     section: &[f64],
     ax: f64,
     ay: f64,

@@ -11,8 +11,7 @@ use arith::Vec3;
 use bodies::Travel;
 use walk::Settings;
 
-#[unsafe(no_mangle)]
-pub extern "C" fn jorghipa_move(
+pub fn jorghipa_move(
     section: &[f64],
     kind: u32,
     numbers: &[f64],

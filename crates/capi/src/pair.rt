@@ -5,8 +5,7 @@ ghost use Rattle.capi.specs.handing.Interface.{Measures, places, counts, both};
 ghost use Rattle.capi.specs.handing.Pairs.{pair_places, won_places};
 ghost use Rattle.capi.specs.Calls.{pair_of};
 
-#[unsafe(no_mangle)]
-pub extern "C" fn jorghipa_pair(
+pub fn jorghipa_pair(
     chuck: &[f64],
     work: &[f64],
     kind: u32,
@@ -47,8 +46,7 @@ pub extern "C" fn jorghipa_pair(
     )
 }
 
-#[unsafe(no_mangle)]
-pub extern "C" fn jorghipa_pair_convex(
+pub fn jorghipa_pair_convex(
     chuck: &[f64],
     work: &[f64],
     convex: &[f64],

@@ -13,8 +13,7 @@ use arith::Vec3;
 use section::{Aabb, Sphere};
 use walk::Cylinder;
 
-#[unsafe(no_mangle)]
-pub extern "C" fn jorghipa_verdict_sphere(
+pub fn jorghipa_verdict_sphere(
     section: &[f64],
     x: f64,
     y: f64,
@@ -31,8 +30,7 @@ pub extern "C" fn jorghipa_verdict_sphere(
     crate::handing::judge(verdict, collision)
 }
 
-#[unsafe(no_mangle)]
-pub extern "C" fn jorghipa_verdict_box(
+pub fn jorghipa_verdict_box(
     section: &[f64],
     z0: f64,
     z1: f64,
@@ -48,8 +46,7 @@ pub extern "C" fn jorghipa_verdict_box(
     crate::handing::judge(verdict, collision)
 }
 
-#[unsafe(no_mangle)]
-pub extern "C" fn jorghipa_verdict_cylinder(
+pub fn jorghipa_verdict_cylinder(
     section: &[f64],
     ax: f64,
     ay: f64,
@@ -79,8 +76,7 @@ pub extern "C" fn jorghipa_verdict_cylinder(
     crate::handing::judge(verdict, collision)
 }
 
-#[unsafe(no_mangle)]
-pub extern "C" fn jorghipa_verdict_walk(
+pub fn jorghipa_verdict_walk(
     section: &[f64],
     ax: f64,
     ay: f64,
@@ -114,8 +110,7 @@ pub extern "C" fn jorghipa_verdict_walk(
     crate::handing::give_walk(verdict, collision, boxes, waiting, cut)
 }
 
-#[unsafe(no_mangle)]
-pub extern "C" fn jorghipa_verdict_convex(
+pub fn jorghipa_verdict_convex(
     convex: &[f64],
     section: &[f64],
     clearance: f64,

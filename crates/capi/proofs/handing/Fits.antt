@@ -1,7 +1,7 @@
 -- What an answer puts into the lent places fits them: of a cylinder by what its query promises, of a pair by the answer's case.
 use Prim.Native.Nat.{ℕ, zero, suc, ◌≤◌}
 use mathlib.Core.List.{List}
-use mathlib.Core.Path.{◌≡◌, sym, subst}
+use mathlib.Core.Path.{sym, subst}
 use native.Mathlib.Nat.{le_trans}
 use lib.Dec.{lit≤}
 use lib.Ieee.{Float}

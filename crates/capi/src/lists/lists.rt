@@ -19,6 +19,7 @@ pub fn other_kind(kind: u32) -> bool
 }
 
 // Of one body: number 1 where it has not seven numbers, then 14 for another kind.
+#[tactic(auto, unfolding(section::specs::profile::Refusals::refusal))]
 pub fn one_body_refusal(kind: u32, numbers: &[f64]) -> u32
     ensures { result ≡ refusal (one_body_tests kind numbers.now) }
 {

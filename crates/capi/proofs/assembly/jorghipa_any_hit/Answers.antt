@@ -1,5 +1,4 @@
 -- `capi::assembly::jorghipa_any_hit` meets its contract: the lists' number, or the verdict on the bodies read in the lent place.
-use borrow.Author.Rules.{rules}
 use mathlib.Core.Path.{refl, sym, ◌∙◌}
 use Rattle.capi.proofs.lists.Taken.{front_few, seven_each}
 use Rattle.capi.proofs.AssemblyRead.{by_lists, by_bodies}

@@ -1,5 +1,4 @@
 -- `capi::building::jorghipa_build_polygon` meets its contract: the answer's case, and the space as the builder leaves it.
-use borrow.Author.Rules.{rules}
 use Rattle.capi.proofs.handing.Same.{gives}
 use Rattle.capi.proofs.building.jorghipa_build_polygon.Goals as goal
 

@@ -1,5 +1,4 @@
 -- `capi::cylinder::jorghipa_cylinder` meets its contract: the answer's case in the lent places; the counts fit by demand 3.
-use borrow.Author.Rules.{rules}
 use native.Mathlib.Omega.{arith}
 use Rattle.capi.proofs.handing.Fits.{promised_fits}
 use Rattle.capi.proofs.handing.Same.{measures, owes}

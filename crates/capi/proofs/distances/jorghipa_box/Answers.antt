@@ -1,5 +1,4 @@
 -- `capi::distances::jorghipa_box` meets its contract: the answer's case in the lent places.
-use borrow.Author.Rules.{rules}
 use Rattle.section.proofs.Demand.Queries.{bounded_few}
 use Rattle.capi.proofs.handing.Same.{measures, owes}
 use Rattle.capi.proofs.distances.jorghipa_box.Goals as goal

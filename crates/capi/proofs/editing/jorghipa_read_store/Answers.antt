@@ -1,6 +1,5 @@
 -- `capi::editing::jorghipa_read_store` meets its contract, by the answer's case.
 use mathlib.Core.Path.{sym, ◌∙◌}
-use borrow.Author.Rules.{rules}
 use Rattle.capi.proofs.editing.jorghipa_read_store.Goals as goal
 
 pub returns-in-Refused : goal.returns-in-Refused

@@ -1,5 +1,4 @@
 -- `capi::editing::jorghipa_replace` meets its contract.
-use borrow.Author.Rules.{rules}
 use Rattle.capi.proofs.editing.jorghipa_replace.Goals as goal
 
 pub returns : goal.returns

@@ -1,5 +1,4 @@
 -- `capi::lifting::jorghipa_lifted_sphere` meets its contract: the answer's case in the lent places.
-use borrow.Author.Rules.{rules}
 use Rattle.section.proofs.Demand.Queries.{bounded_off_axis_few}
 use Rattle.capi.proofs.handing.Same.{measures, owes}
 use Rattle.capi.proofs.lifting.jorghipa_lifted_sphere.Goals as goal

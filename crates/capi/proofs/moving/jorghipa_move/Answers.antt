@@ -1,5 +1,4 @@
 -- `capi::moving::jorghipa_move` meets its contract: the body's number, or the move's answer in the lent places.
-use borrow.Author.Rules.{rules}
 use mathlib.Core.Path.{sym, ◌∙◌}
 use Rattle.capi.specs.Calls.{move_of}
 use Rattle.capi.proofs.lists.Taken.{seven_given}

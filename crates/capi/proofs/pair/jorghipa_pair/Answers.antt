@@ -1,5 +1,4 @@
 -- `capi::pair::jorghipa_pair` meets its contract: the body's number, or the pair's answer in the lent places.
-use borrow.Author.Rules.{rules}
 use mathlib.Core.Path.{sym, ◌∙◌}
 use Rattle.capi.specs.Calls.{pair_of}
 use Rattle.capi.proofs.lists.Taken.{seven_given}

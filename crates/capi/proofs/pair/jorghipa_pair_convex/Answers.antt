@@ -1,5 +1,4 @@
 -- `capi::pair::jorghipa_pair_convex` meets its contract: the pair's answer in the lent places.
-use borrow.Author.Rules.{rules}
 use Rattle.capi.proofs.handing.Fits.{pair_convex_fits}
 use Rattle.capi.proofs.handing.Same.{measures}
 use Rattle.capi.proofs.pair.jorghipa_pair_convex.Goals as goal

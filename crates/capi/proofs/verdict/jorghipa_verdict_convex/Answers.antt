@@ -1,5 +1,4 @@
 -- `capi::verdict::jorghipa_verdict_convex` meets its contract: the verdict's case in the lent place.
-use borrow.Author.Rules.{rules}
 use Rattle.capi.proofs.handing.Same.{gives}
 use Rattle.capi.proofs.verdict.jorghipa_verdict_convex.Goals as goal
 

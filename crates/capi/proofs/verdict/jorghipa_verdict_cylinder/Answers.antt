@@ -1,5 +1,4 @@
 -- `capi::verdict::jorghipa_verdict_cylinder` meets its contract: the verdict's case in the lent place.
-use borrow.Author.Rules.{rules}
 use Rattle.capi.proofs.handing.Same.{gives}
 use Rattle.capi.proofs.verdict.jorghipa_verdict_cylinder.Goals as goal
 

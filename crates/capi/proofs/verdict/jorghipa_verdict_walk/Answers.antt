@@ -1,5 +1,4 @@
 -- `capi::verdict::jorghipa_verdict_walk` meets its contract: the verdict's case in the lent places.
-use borrow.Author.Rules.{rules}
 use Rattle.capi.proofs.handing.Same.{measures}
 use Rattle.capi.proofs.verdict.jorghipa_verdict_walk.Goals as goal
 

@@ -1,6 +1,5 @@
 -- `capi::given_edits::editing::edit_given` meets its contract: the edit of 40 bytes, or 12.
 use Rattle.capi.proofs.given_edits.Edited.{edit_done, edit_refused}
-use borrow.Author.Rules.{rules}
 use Rattle.capi.proofs.given_edits.editing.edit_given.Goals as goal
 
 pub returns-then-bytes-eq40 : goal.returns-then-bytes-eq40

@@ -1,5 +1,4 @@
 -- `capi::given_edits::editing::give_length` meets its contract, by the answer's case.
-use borrow.Author.Rules.{rules}
 use Rattle.capi.proofs.given_edits.editing.give_length.Goals as goal
 
 pub returns-in-Length : goal.returns-in-Length

@@ -1,5 +1,4 @@
 -- `capi::handing::building::give_count` meets its contract, by the answer's case.
-use borrow.Author.Rules.{rules}
 use Rattle.capi.proofs.handing.building.give_count.Goals as goal
 
 pub returns-in-Numbers : goal.returns-in-Numbers

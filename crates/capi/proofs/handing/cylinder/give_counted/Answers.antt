@@ -1,5 +1,4 @@
 -- `capi::handing::cylinder::give_counted` meets its contract.
-use borrow.Author.Rules.{rules}
 use mathlib.Core.Path.{refl}
 use Rattle.walk.specs.declared.shapes.CountedHit.{CountedHit}
 use Rattle.capi.specs.handing.Interface.{hit_places}

@@ -1,5 +1,4 @@
 -- `capi::handing::cylinder::give_counts` meets its contract; the counts fit by its demand.
-use borrow.Author.Rules.{rules}
 use Rattle.capi.proofs.handing.cylinder.give_counts.Goals as goal
 
 pub returns : goal.returns

@@ -1,5 +1,4 @@
 -- `capi::handing::cylinder::give_cylinder` meets its contract, by the answer's case.
-use borrow.Author.Rules.{rules}
 use mathlib.Core.Path.{ap, sym}
 use Rattle.walk.specs.cylinders.Cylinders.{told}
 use Rattle.capi.proofs.handing.Same.{gives}

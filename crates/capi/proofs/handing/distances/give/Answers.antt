@@ -1,5 +1,5 @@
 -- `capi::handing::distances::give` meets its contract, by the answer's case.
-use borrow.Author.Rules.{Fits-under, rules}
+use borrow.Author.Rules.{Fits-under}
 use Rattle.capi.proofs.handing.distances.give.Goals as goal
 
 pub overflow_cast-edge : goal.overflow_cast-edge

@@ -1,5 +1,5 @@
 -- `capi::handing::lifting::give_lifted` meets its contract, by the answer's case.
-use borrow.Author.Rules.{Fits-under, rules}
+use borrow.Author.Rules.{Fits-under}
 use Rattle.capi.proofs.handing.lifting.give_lifted.Goals as goal
 
 pub overflow_cast-edge : goal.overflow_cast-edge

@@ -1,5 +1,4 @@
 -- `capi::handing::lifting::give_lifted_cylinder` meets its contract, by the answer's case.
-use borrow.Author.Rules.{rules}
 use mathlib.Core.Path.{ap}
 use Rattle.bodies.specs.lifted.Answers.{told_counted}
 use Rattle.bodies.specs.declared.lifted.shapes.LiftedCountedHit.{LiftedCountedHit}

@@ -1,5 +1,4 @@
 -- `capi::handing::moving::give_report` meets its contract: by the case of the answer.
-use borrow.Author.Rules.{rules}
 use Rattle.capi.proofs.handing.moving.give_report.Goals as goal
 
 pub returns-in-Moved : goal.returns-in-Moved

@@ -1,5 +1,4 @@
 -- `capi::handing::pair::give_pair` meets its contract: by the case of the answer.
-use borrow.Author.Rules.{rules}
 use mathlib.Core.Path.{ap, refl}
 use Rattle.bodies.specs.pairs.Pairs.{told}
 use Rattle.capi.proofs.handing.Same.{won_given}

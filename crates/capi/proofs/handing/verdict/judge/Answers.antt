@@ -1,5 +1,4 @@
 -- `capi::handing::verdict::judge` meets its contract, by the verdict's case.
-use borrow.Author.Rules.{rules}
 use Rattle.capi.proofs.handing.verdict.judge.Goals as goal
 
 pub returns-in-Clear : goal.returns-in-Clear

@@ -1,5 +1,5 @@
 -- `capi::handing::walks::give_walk` meets its contract, by the verdict's case; the counts fit by its demand.
-use borrow.Author.Rules.{Fits-under, rules}
+use borrow.Author.Rules.{Fits-under}
 use native.Mathlib.Omega.{arith}
 use Rattle.capi.proofs.handing.walks.give_walk.Goals as goal
 

@@ -1,8 +1,7 @@
 -- `capi::lists::lists::any_other_kind` meets its contract: what is not yet tried decides for the whole list.
-use Prim.Native.Nat.{◌≤◌, ◌-◌}
 use native.Mathlib.Nat.{le_refl}
-use mathlib.Core.Path.{◌≡◌, ap, sym, ◌∙◌}
-use lib.ListN.{length, drop, take}
+use mathlib.Core.Path.{ap, sym, ◌∙◌}
+use lib.ListN.{length}
 use lib.Seq.{take-length}
 use borrow.Author.Rules.{rules}
 use Rattle.section.specs.profile.Refusals.{any_of}

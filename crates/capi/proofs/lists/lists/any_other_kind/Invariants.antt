@@ -1,12 +1,8 @@
 -- `capi::lists::lists::any_other_kind` meets its contract: what is not yet tried decides for the whole list.
 use Prim.Native.Nat.{◌≤◌, ◌-◌}
-use native.Mathlib.Nat.{le_refl}
-use mathlib.Core.Path.{◌≡◌, ap, sym, ◌∙◌}
+use mathlib.Core.Path.{◌≡◌}
 use lib.ListN.{length, drop, take}
-use lib.Seq.{take-length}
-use borrow.Author.Rules.{rules}
 use Rattle.section.specs.profile.Refusals.{any_of}
-use Rattle.bodies.proofs.assemblies.Front.{found_later, found_here, found_never}
 use Rattle.capi.specs.lists.Lists.{other_kind}
 use Rattle.capi.proofs.lists.lists.any_other_kind.Given as goal
 

@@ -1,11 +1,8 @@
 -- `capi::lists::lists::bodies_of` meets its contract: the first i bodies are read.
-use Prim.Native.Nat.{ℕ, ◌≤◌, ◌-◌, ◌*◌}
-use native.Mathlib.Nat.{le_antisymm, le_of_eq, le_trans, lt_of_lt_of_le}
-use mathlib.Core.Path.{◌≡◌, ap, sym, ◌∙◌}
-use lib.ListN.{length, take, length-set}
-use borrow.Author.Rules.{rules}
+use Prim.Native.Nat.{◌≤◌, ◌-◌, ◌*◌}
+use mathlib.Core.Path.{◌≡◌}
+use lib.ListN.{length, take}
 use Rattle.capi.specs.lists.Lists.{bodies_of}
-use Rattle.capi.proofs.lists.BodiesRead.{read_more}
 use Rattle.capi.proofs.lists.lists.bodies_of.Given as goal
 
 abbrev pub invariant-loop-i : goal.invariant-loop-i

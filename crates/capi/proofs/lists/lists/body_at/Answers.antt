@@ -1,5 +1,4 @@
 -- `capi::lists::lists::body_at` meets its contract.
-use borrow.Author.Rules.{rules}
 use borrow.Author.Tests.{eq-eqb, ne_eqb}
 use Rattle.capi.proofs.lists.lists.body_at.Goals as goal
 

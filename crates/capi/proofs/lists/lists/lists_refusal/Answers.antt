@@ -1,5 +1,4 @@
 -- `capi::lists::lists::lists_refusal` meets its contract.
-use borrow.Author.Rules.{rules}
 use borrow.Author.Tests.{le-leb, lt-leb}
 use Rattle.section.specs.profile.Refusals.{refusal}
 use Rattle.capi.proofs.lists.BodiesRead.{uneven, other_count, sevens}
