@@ -1,2 +1,3 @@
--- The law of reading on.
+-- The laws of reading on.
 pub mod Behind
+pub mod Whole

@@ -1,11 +1,13 @@
-// Standard input, read into a lent buffer. A read that fails counts as the end.
+// What a reader gives, read into a lent buffer.
 #![tactic(auto)]
 
-ghost use Rattle.std.specs.Prelude.{◌≡◌, ◌+◌, ◌≤◌, ◌<◌, ◌^◌, length, set};
+ghost use Rattle.std.specs.Prelude.{◌≡◌, ◌+◌, ◌≤◌, ◌<◌, ◌^◌, ℕ, IfOk, OnErr, length, min, set, take};
+ghost use Rattle.std.specs.Io.KnownBytes.{Consumes, IsAtEnd, Keeps};
 ghost use Rattle.std.proofs.lemmas.List.Edits.{sets};
 ghost use Rattle.input.specs.Input.{ReadsOn, ReadsPiece};
 
-use libc::STDIN_FILENO;
+use std::io;
+use std::io::Read;
 
 // Past the buffer nothing is kept.
 fn keep_byte(buffer: &mut [u8], at: usize, x: u8)
@@ -28,7 +30,8 @@ fn keep(buffer: &mut [u8], from: usize, piece: &[u8])
 }
 
 fn least(a: usize, b: usize) -> usize
-    ensures { (result ≤ a) × (result ≤ b) }
+    ensures within { (result ≤ a) × (result ≤ b) }
+    ensures value { result ≡ min a b }
 {
     if a < b {
         return a;
@@ -36,40 +39,62 @@ fn least(a: usize, b: usize) -> usize
     b
 }
 
-// Reads once, `most` bytes at most, to the front of the piece, and says how many came. That they are
-// those of standard input cannot be said: the contract of `read` says nothing of what it puts there.
-fn read_once(piece: &mut [u8], most: usize) -> usize
-    ensures { (result ≤ most) × (result ≤ length piece.new) }
+// Reads once, `most` bytes at most, to the front of the piece, and says how many came. They are the
+// reader's next ones, where those are known: of standard input they are not. None come only at the
+// end, and a read that fails takes none.
+fn read_once<R: Read>(reader: &mut R, piece: &mut [u8], most: usize) -> io::Result<usize>
+    ensures few { IfOk result (λ n. (n ≤ most) × (n ≤ length piece.new)) }
+    ensures taken { IfOk result (λ n. Consumes (R.remaining reader.old) (R.remaining reader.new) (take n piece.new)) }
+    ensures end { 0 < most → 0 < length piece.old → IfOk result (λ n. n ≡ 0 → IsAtEnd (R.remaining reader.new)) }
+    ensures failed { OnErr result (Keeps (R.remaining reader.old) (R.remaining reader.new)) }
 {
     let end = least(most, piece.len());
-    let got = libc::read(STDIN_FILENO, &mut piece[..end]);
-    least(io::count(got, piece), end)
+    reader.read(&mut piece[..end])
 }
 
 // Keeps what one read brings behind the first `from` bytes, and says how many there are then, at
-// most `most`.
-fn read_piece(buffer: &mut [u8], from: usize, most: usize) -> usize
+// most `most`. A read that fails changes nothing.
+fn read_piece<R: Read>(
+    reader: &mut R,
+    buffer: &mut [u8],
+    from: usize,
+    most: usize,
+) -> io::Result<usize>
     requires { from ≤ most }
-    ensures { ReadsPiece buffer.old from most buffer.new result }
+    ensures piece { IfOk result (λ n. ReadsPiece buffer.old from most buffer.new n
+        (R.remaining reader.old) (R.remaining reader.new)) }
+    ensures end { from < most → IfOk result (λ n. n ≡ from → IsAtEnd (R.remaining reader.new)) }
+    ensures unchanged { OnErr result (buffer.new ≡ buffer.old) }
+    ensures failed { OnErr result (Keeps (R.remaining reader.old) (R.remaining reader.new)) }
 {
-    let mut piece = io::buffer();
-    let n = read_once(&mut piece, most - from);
+    let mut piece = [0u8; 4096];
+    let n = read_once(reader, &mut piece, most - from)?;
     keep(buffer, from, &piece[..n]);
-    from + n
+    Ok(from + n)
 }
 
 // Reads on behind the first `from` bytes, which stay, until there are `most` or the input ends, and
 // says how many there are then. The buffer keeps what it has room for; the rest is only counted.
-pub fn read_on(buffer: &mut [u8], from: usize, most: usize) -> usize
-    ensures { ReadsOn buffer.old from buffer.new result }
+// Where a read fails, what came before it is kept all the same.
+pub fn read_on<R: Read>(
+    reader: &mut R,
+    buffer: &mut [u8],
+    from: usize,
+    most: usize,
+) -> io::Result<usize>
+    ensures ok { IfOk result (λ n. ReadsOn buffer.old from buffer.new n
+        (R.remaining reader.old) (R.remaining reader.new)) }
+    ensures whole { IfOk result (λ n. n < most → IsAtEnd (R.remaining reader.new)) }
+    ensures failed { OnErr result ((n : ℕ) × ReadsOn buffer.old from buffer.new n
+        (R.remaining reader.old) (R.remaining reader.new)) }
 {
     let mut length = from;
     while length < most {
-        let next = read_piece(buffer, length, most);
+        let next = read_piece(reader, buffer, length, most)?;
         if next == length {
-            return next;
+            return Ok(next);
         }
         length = next;
     }
-    length
+    Ok(length)
 }

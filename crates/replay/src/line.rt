@@ -1,8 +1,9 @@
-// Lines of standard input, in a buffer.
-ghost use Rattle.std.specs.Prelude.{◌≤◌, length};
+// Lines of an input, in a buffer.
+ghost use Rattle.std.specs.Prelude.{◌≤◌, IfOk, length};
 ghost use Rattle.replay.specs.Lines.{Within};
 
-use libc::STDIN_FILENO;
+use std::io;
+use std::io::Read;
 
 // What is read and not yet answered, the bytes of the buffer from start up to end; the next line, if
 // one is found, from `from` up to `to`; and whether the input has ended.
@@ -46,41 +47,46 @@ fn to_front(buf: &mut [u8], start: usize, end: usize) -> usize
 }
 
 // Reads once, to behind the first n bytes, and answers how many there are then: as many as before
-// where the input has ended, the buffer is full or the read fails.
-fn read_more(buf: &mut [u8], n: usize) -> usize
+// where the input has ended or the buffer is full.
+fn read_more<R: Read>(reader: &mut R, buf: &mut [u8], n: usize) -> io::Result<usize>
     requires { n ≤ length buf.old }
-    ensures { (n ≤ result) × (result ≤ length buf.new) }
+    ensures { IfOk result (λ m. (n ≤ m) × (m ≤ length buf.new)) }
 {
-    let got = libc::read(STDIN_FILENO, &mut buf[n..]);
-    n + io::count(got, &buf[n..])
+    let got = reader.read(&mut buf[n..])?;
+    Ok(n + got)
 }
 
 // Finds the next line, or reads more where none is whole. What the input ends with, or what fills the
 // buffer, is the last line.
-pub fn next_line(buf: &mut [u8], start: usize, end: usize) -> Held
+pub fn next_line<R: Read>(
+    reader: &mut R,
+    buf: &mut [u8],
+    start: usize,
+    end: usize,
+) -> io::Result<Held>
     requires { (start ≤ end) × (end ≤ length buf.old) }
-    ensures { Within result (length buf.new) }
+    ensures { IfOk result (λ held. Within held (length buf.new)) }
 {
     let stop = line_end(buf, start, end);
     if stop < end {
-        return Held {
+        return Ok(Held {
             start: stop + 1,
             end,
             found: true,
             from: start,
             to: stop,
             ended: false,
-        };
+        });
     }
     let kept = to_front(buf, start, end);
-    let filled = read_more(buf, kept);
+    let filled = read_more(reader, buf, kept)?;
     let ended = filled <= kept;
-    Held {
+    Ok(Held {
         start: 0,
         end: filled,
         found: ended && 0 < kept,
         from: 0,
         to: kept,
         ended,
-    }
+    })
 }

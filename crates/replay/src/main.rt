@@ -20,10 +20,11 @@
 // edge, a cylinder's also with how many boxes were measured, how many pieces waited at most, and 1
 // where the walk was cut, else 0, in decimal; a verdict with 1, a collision, or 0; a builder with the
 // count of the numbers that it keeps, in decimal, and these, or with `damaged` where it changed any
-// other number of its space. What is turned down is `refused` and the number.
+// other number of its space. What is turned down is `refused` and the number. A read or a write that
+// fails ends the program with its error.
 #![tactic(auto)]
 
-ghost use Rattle.std.specs.Prelude.{◌≤◌, length};
+ghost use Rattle.std.specs.Prelude.{◌≤◌, IfOk, length};
 ghost use Rattle.replay.specs.Lines.{Within};
 ghost use Rattle.replay.specs.Replies.{kept};
 
@@ -35,83 +36,89 @@ mod table;
 
 use ask::{BLANK, Reply, ask};
 use bits::pattern;
-use libc::STDOUT_FILENO;
 use line::{Held, next_line};
 use parse::parse;
+use std::io;
+use std::io::{Read, Write};
 
-fn print_text(text: &[u8]) {
-    io::write_all(STDOUT_FILENO, text);
+fn print_text<W: Write>(writer: &mut W, text: &[u8]) -> io::Result<()> {
+    writer.write_all(text)
 }
 
-fn print_number(x: f64) {
-    io::print_hex(STDOUT_FILENO, pattern(x), 16);
+fn print_number<W: Write>(writer: &mut W, x: f64) -> io::Result<()> {
+    write!(writer, "{:016x}", pattern(x))
 }
 
 // A number behind a space.
-fn print_next(x: f64) {
-    print_text(b" ");
-    print_number(x);
+fn print_next<W: Write>(writer: &mut W, x: f64) -> io::Result<()> {
+    print_text(writer, b" ")?;
+    print_number(writer, x)
 }
 
-fn print_count(n: u64) {
-    io::print_decimal(STDOUT_FILENO, n);
+fn print_count<W: Write>(writer: &mut W, n: u64) -> io::Result<()> {
+    write!(writer, "{n}")
 }
 
-fn print_next_count(n: usize) {
-    print_text(b" ");
-    print_count(n as u64);
+fn print_next_count<W: Write>(writer: &mut W, n: usize) -> io::Result<()> {
+    print_text(writer, b" ")?;
+    print_count(writer, n as u64)
 }
 
-fn print_flag(flag: bool) {
+fn print_flag<W: Write>(writer: &mut W, flag: bool) -> io::Result<()> {
     if flag {
-        print_text(b"1");
+        print_text(writer, b"1")
     } else {
-        print_text(b"0");
+        print_text(writer, b"0")
     }
 }
 
-fn print_hit(distance: f64, z: f64, r: f64, edge: usize) {
-    print_number(distance);
-    print_next(z);
-    print_next(r);
-    print_next_count(edge);
+fn print_hit<W: Write>(
+    writer: &mut W,
+    distance: f64,
+    z: f64,
+    r: f64,
+    edge: usize,
+) -> io::Result<()> {
+    print_number(writer, distance)?;
+    print_next(writer, z)?;
+    print_next(writer, r)?;
+    print_next_count(writer, edge)
 }
 
-fn print_walk(boxes: usize, waiting: usize, cut: bool) {
-    print_next_count(boxes);
-    print_next_count(waiting);
-    print_text(b" ");
-    print_flag(cut);
+fn print_walk<W: Write>(writer: &mut W, boxes: usize, waiting: usize, cut: bool) -> io::Result<()> {
+    print_next_count(writer, boxes)?;
+    print_next_count(writer, waiting)?;
+    print_text(writer, b" ")?;
+    print_flag(writer, cut)
 }
 
 // How many numbers a builder keeps, and these.
-fn print_kept(kept: &[f64]) {
-    print_count(kept.len() as u64);
-    let mut i = 0;
-    while i < kept.len() {
-        print_next(kept[i]);
-        i += 1;
+fn print_kept<W: Write>(writer: &mut W, kept: &[f64]) -> io::Result<()> {
+    print_count(writer, kept.len() as u64)?;
+    for x in kept {
+        print_next(writer, *x)?;
     }
+    Ok(())
 }
 
-fn print_refused(number: u32) {
-    print_text(b"refused ");
-    print_count(number as u64);
+fn print_refused<W: Write>(writer: &mut W, number: u32) -> io::Result<()> {
+    print_text(writer, b"refused ")?;
+    print_count(writer, number as u64)
 }
 
-fn print(reply: Reply, kept: &[f64]) {
+fn print<W: Write>(writer: &mut W, reply: Reply, kept: &[f64]) -> io::Result<()> {
     match reply {
-        Reply::Number(x) => print_number(x),
-        Reply::Hit(distance, z, r, edge) => print_hit(distance, z, r, edge),
+        Reply::Number(x) => print_number(writer, x),
+        Reply::Hit(distance, z, r, edge) => print_hit(writer, distance, z, r, edge),
         Reply::Walked(distance, z, r, edge, boxes, waiting, cut) => {
-            print_hit(distance, z, r, edge);
-            print_walk(boxes, waiting, cut);
+            print_hit(writer, distance, z, r, edge)?;
+            print_walk(writer, boxes, waiting, cut)
         }
-        Reply::Verdict(collision) => print_flag(collision),
-        Reply::Kept(_) => print_kept(kept),
-        Reply::Refused(number) => print_refused(number),
-        Reply::Damaged => print_text(b"damaged"),
-        Reply::Malformed => print_text(b"malformed"),
+        Reply::Verdict(collision) => print_flag(writer, collision),
+        Reply::Kept(_) => print_kept(writer, kept),
+        Reply::Refused(number) => print_refused(writer, number),
+        Reply::Damaged => print_text(writer, b"damaged"),
+        Reply::Malformed => print_text(writer, b"malformed"),
     }
 }
 
@@ -145,46 +152,51 @@ fn reply_to(line: &[u8], space: &mut [f64]) -> Reply
     Reply::Malformed
 }
 
-fn reply(line: &[u8]) {
+fn reply<W: Write>(writer: &mut W, line: &[u8]) -> io::Result<()> {
     let mut space = [BLANK; 1024];
     let reply = reply_to(line, &mut space);
     let n = kept_by(reply);
-    print(reply, &space[0..n]);
-    print_text(b"\n");
+    print(writer, reply, &space[0..n])?;
+    print_text(writer, b"\n")
 }
 
 // One turn: answers the next line, if one is found.
-fn turn(buf: &mut [u8], start: usize, end: usize) -> Held
+fn turn<R: Read, W: Write>(
+    reader: &mut R,
+    writer: &mut W,
+    buf: &mut [u8],
+    start: usize,
+    end: usize,
+) -> io::Result<Held>
     requires { (start ≤ end) × (end ≤ length buf.old) }
-    ensures { Within result (length buf.new) }
+    ensures { IfOk result (λ held. Within held (length buf.new)) }
 {
-    let held = next_line(buf, start, end);
+    let held = next_line(reader, buf, start, end)?;
     let from = held.from;
     let to = held.to;
     if held.found {
-        reply(&buf[from..to]);
+        reply(writer, &buf[from..to])?;
     }
-    held
+    Ok(held)
 }
 
-// A proved loop has to end, and nothing says that the input does: it counts its turns down from a
+// A proved loop has to end, and nothing says that the input does: it takes no more turns than a
 // number that no run uses up.
-fn replay(buf: &mut [u8]) {
-    let mut turns = u64::MAX;
+fn replay<R: Read, W: Write>(reader: &mut R, writer: &mut W, buf: &mut [u8]) -> io::Result<()> {
     let mut start = 0;
     let mut end = 0;
-    while turns > 0 {
-        let held = turn(buf, start, end);
+    for _ in 0..u64::MAX {
+        let held = turn(reader, writer, buf, start, end)?;
         if held.ended {
-            return;
+            return Ok(());
         }
         start = held.start;
         end = held.end;
-        turns -= 1;
     }
+    Ok(())
 }
 
-fn main() {
-    let mut buf = io::large_buffer();
-    replay(&mut buf);
+fn main(rt: HostRuntime) -> io::Result<()> {
+    let mut buf = [0u8; 65536];
+    replay(&mut rt.reader(), &mut io::writer(&rt), &mut buf)
 }

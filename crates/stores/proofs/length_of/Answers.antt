@@ -1,6 +1,6 @@
 -- `stores::length_of` meets its contract.
+use Rattle.std.proofs.Common.{rules}
 use Rattle.store.specs.Bytes.{little_endian}
-use borrow.Author.Rules.{rules}
 use Rattle.stores.proofs.length_of.Goals as goal
 
 pub returns : goal.returns

@@ -1,7 +1,6 @@
 -- `replay::ask::any_written` is safe and ends: the loop stays within the slice.
 use Prim.Native.Nat.{◌≤◌, ◌-◌}
 use lib.ListN.{length}
-use borrow.Author.Rules.{rules}
 use Rattle.replay.proofs.ask.any_written.Given as goal
 
 abbrev pub invariant-loop-i : goal.invariant-loop-i

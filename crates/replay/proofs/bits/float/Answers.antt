@@ -1,7 +1,6 @@
 -- `replay::bits::float` meets its contract: what is no NaN's pattern is below that of an infinity, but for the sign.
 use mathlib.Core.Bool.{Bool, not}
 use mathlib.Core.Path.{subst, sym}
-use borrow.Author.Rules.{rules}
 use lib.Arith.{le→nltb}
 use lib.Dec.{T}
 use lib.Ieee.{binary64, div, of_bits}

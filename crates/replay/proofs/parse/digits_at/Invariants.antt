@@ -1,6 +1,5 @@
 -- `replay::parse::digits_at` is safe and ends: the loop stays within the k digits.
 use Prim.Native.Nat.{◌≤◌, ◌-◌}
-use borrow.Author.Rules.{rules}
 use Rattle.replay.proofs.parse.digits_at.Given as goal
 
 abbrev pub invariant-loop-i : goal.invariant-loop-i

@@ -1,0 +1,2 @@
+-- The law of the program.
+pub mod Whole

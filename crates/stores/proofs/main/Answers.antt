@@ -1,9 +1,0 @@
--- `stores::main` is safe and ends: the measure is the number of turns that are left.
-use borrow.Author.Rules.{rules}
-use Rattle.stores.proofs.main.Goals as goal
-
-pub loop-turns-init : goal.loop-turns-init
-loop-turns-init c = tt
-
-pub loop-turns-preserved : goal.loop-turns-preserved
-loop-turns-preserved c = tt
