@@ -15,14 +15,16 @@
 --       point lies beyond that corner
 --   Points    the two points, and their reported distance: 109 u
 --   Turns     a side that runs either way; Axis, OnSide: a side parallel to an axis, in f64; Sides: 01's closest_places
---   Lengths   what is asked of the scale and of a side's length; Scales: the scales
+--   Lengths   what is asked of the scale and of a side's length; Scales: the scales;
+--       Scaled: sides that are long enough at each
 --   Corner    a corner against the edge, from the residual of its place; Relative: the dot products; Nearest: the place; Corners:
 --       both ends of a side, true within 256 u
 --   Short     an edge so short that 1e-24 counts; Thin: a side that is not taken for a point is not so short that Chain fails
 --   Segments  01's two segments, the second along z or along r: clear of a side that is not thin, and what a side of any length
 --       tells
 --   Outline   from four sides every point of the box; Clipped: an edge inside the box; EdgeBox: an edge and a box that is wide
---       both ways; AnyBox: and any box, whose thin lengths are lost
+--       both ways; FromCorner: a point that is moved; AnyBox: any box, whose thin
+--       lengths are lost
 --   Gap       the least over the edges, and the result that is made of it; Sections: at both reaches
 --   Solid     from the edges to the solid: a box that meets no edge is all in or all out; Centre: its middle is out;
 --             SolidSections
@@ -42,6 +44,7 @@ pub mod Axis
 pub mod OnSide
 pub mod Sides
 pub mod Scales
+pub mod Scaled
 pub mod Corner
 pub mod Relative
 pub mod Nearest
@@ -52,6 +55,7 @@ pub mod Segments
 pub mod Outline
 pub mod Clipped
 pub mod EdgeBox
+pub mod FromCorner
 pub mod AnyBox
 pub mod Gap
 pub mod Sections

@@ -14,6 +14,7 @@
 --   Spheres     spheres, by the verdict
 --   Space       the same in space
 --   Sound       a section whose radii are 0 or at least 1/128 mm is plain
+--   Judged      what is shown of a sphere that is judged clear
 --   Answers     of every input that is not turned down: u is 2 ^ -33 mm, ε 2 ^ -27 mm, in space and for spheres 2 ^ -26 mm
 --   Example     the hypotheses are met at a reading; without them the sign is not true: an input
 pub mod Meet
@@ -28,5 +29,6 @@ pub mod Clear
 pub mod Spheres
 pub mod Space
 pub mod Sound
+pub mod Judged
 pub mod Answers
 pub mod Example

@@ -24,9 +24,9 @@ use Rattle.truth.proofs.Boxes.Lengths.{Coordinate, Scale}
 use Rattle.truth.proofs.Boxes.EdgeBox.{Boxed, edge_box_number}
 use Rattle.truth.proofs.Boxes.Floats.{H}
 use Rattle.truth.proofs.Boxes.Gap.{never_over}
-use Rattle.truth.proofs.Boxes.Scales.{scale_limit, scale_limit_walk, scale_metre, scale_metre_walk, thin_limit}
-use Rattle.truth.proofs.Boxes.Scales.{thin_limit_walk, thin_metre, thin_metre_walk, ε_limit, ε_limit_walk, ε_metre}
-use Rattle.truth.proofs.Boxes.Scales.{ε_metre_walk}
+use Rattle.truth.proofs.Boxes.Scaled.{scale_limit, scale_limit_walk, scale_metre, scale_metre_walk}
+use Rattle.truth.proofs.Boxes.Scales.{thin_limit, thin_limit_walk, thin_metre, thin_metre_walk, ε_limit, ε_limit_walk}
+use Rattle.truth.proofs.Boxes.Scales.{ε_metre, ε_metre_walk}
 use Rattle.truth.proofs.Walk.Scales.{within_bounded}
 
 -- box distance exceeds the exact distance between no point of the box and no point of an edge by more than ε

@@ -21,9 +21,9 @@ use Rattle.truth.proofs.Points.Accepted.{unit_of}
 use Rattle.truth.proofs.Points.Closest.{Fine, fine_limit, fine_metre}
 use Rattle.truth.proofs.Sides.Sound.{sound_plain}
 use Rattle.truth.proofs.Boxes.Centre.{solid_too}
-use Rattle.truth.proofs.Boxes.Scales.{scale_limit, scale_limit_walk, scale_metre, scale_metre_walk, thin_limit}
-use Rattle.truth.proofs.Boxes.Scales.{thin_limit_walk, thin_metre, thin_metre_walk, ε_limit, ε_limit_walk, ε_metre}
-use Rattle.truth.proofs.Boxes.Scales.{ε_metre_walk}
+use Rattle.truth.proofs.Boxes.Scaled.{scale_limit, scale_limit_walk, scale_metre, scale_metre_walk}
+use Rattle.truth.proofs.Boxes.Scales.{thin_limit, thin_limit_walk, thin_metre, thin_metre_walk, ε_limit, ε_limit_walk}
+use Rattle.truth.proofs.Boxes.Scales.{ε_metre, ε_metre_walk}
 use Rattle.truth.proofs.Boxes.Sections.{box_clear, NeverOver, Placed, placed_limit, placed_metre, raised, raised_vertices}
 use Rattle.truth.proofs.Boxes.Sections.{Vertices}
 

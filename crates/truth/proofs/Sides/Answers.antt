@@ -8,12 +8,12 @@ use mathlib.Core.Path.{◌≡◌, sym}
 use native.Mathlib.Nat.{lt_of_lt_of_le, mul-le-mul_right}
 use native.Mathlib.Omega.{arith}
 use lib.Dec.{lit<, T}
-use lib.Ieee.{binary64, fits, Float}
-use Rattle.arith.specs.F64.{◌≼◌, e_8, e_9}
+use lib.Ieee.{Float}
+use Rattle.arith.specs.F64.{◌≼◌, e_8}
 use Rattle.arith.specs.declared.vector.Vec3.{Vec3}
 use Rattle.arith.proofs.Laws.Sizes.{K, M}
 use Rattle.section.specs.profile.Refusals.{axis_tests, point_numbers, point_tests, radius_tests, refusal, sphere_numbers, sphere_tests}
-use Rattle.section.specs.profile.Replies.{OfValue, value}
+use Rattle.section.specs.profile.Replies.{OfValue}
 use Rattle.section.specs.profile.Vertices.{any, count, end_at, vertex_at}
 use Rattle.section.specs.declared.profile.shapes.CollisionHit.{CollisionHit}
 use Rattle.section.specs.declared.profile.shapes.Sphere.{Sphere}
@@ -22,8 +22,6 @@ use Rattle.section.proofs.profile.Refusals.Passed.{NumberTaken, taken}
 use Rattle.section.proofs.profile.Replies.{of_reply}
 use Rattle.section.specs.points.Points.{in_section, inside_axis_edge, meridian, point_distance, point_inside, sphere_distance}
 use Rattle.section.specs.Answers.{point_answer, sphere_answer}
-use Rattle.bodies.specs.declared.shapes.Body.TheVariants.{Sphere as Ball}
-use Rattle.bodies.specs.verdicts.Verdicts.{body_verdict}
 use Rattle.arith.specs.Whole.{apart}
 use Rattle.truth.specs.Exact.{origin, place, size, units, units_of_sum}
 use Rattle.truth.specs.Points.{full, Held, metre, Reach, WithinReach, ε₂}
@@ -35,6 +33,7 @@ use Rattle.truth.proofs.Points.Answers.{point_ready, sphere_ready}
 use Rattle.truth.proofs.Points.Verdicts.{sphere_judged}
 use Rattle.truth.proofs.Sides.Clear.{inside_or_axis, point_solid}
 use Rattle.truth.proofs.Sides.Inside.{inside_true, side_true}
+use Rattle.truth.proofs.Sides.Judged.{SphereVerdictClear}
 use Rattle.truth.proofs.Sides.Sound.{sound_plain}
 use Rattle.truth.proofs.Sides.Space.{solid_in_space, solid_space_less}
 use Rattle.truth.proofs.Sides.Spheres.{sphere_solid, verdict_solid}
@@ -93,12 +92,8 @@ sphere_clear m s b S B S' B' h = of_reply _ (refusal (sphere_tests s b [] [])) (
         (room_under m) s b N.center.within N.center.above N.center.vertices (plain_of s S A h)
         (in_bounded m N.radius))
 
--- A SPHERE THAT IS JUDGED CLEAR: every point of the turned solid lies at least the radius and the clearance from its centre, less
--- 1e-9 and ε₂
-pub sphere_verdict_clear : (m : Reach) (s : List Float) (b : Sphere) (clearance : Float) → Held s → Held (sphere_numbers b)
-    → T (fits binary64 clearance) → WithinReach m s → WithinReach m (sphere_numbers b) → T (sound s)
-    → body_verdict s (Ball b) clearance ≡ value false
-    → ClearOfSolidInSpace (ε₂ m) (place clearance + place b.radius - (origin + place e_9)) s b.center
+-- a sphere that is judged clear
+pub sphere_verdict_clear : SphereVerdictClear
 sphere_verdict_clear m s b c S B C S' B' h e =
     let J = sphere_judged m s b c S B C S' B' e in
     let N = J.sphere.center in
