@@ -1,5 +1,5 @@
 // Lines of an input, in a buffer.
-ghost use Rattle.std.specs.Prelude.{◌≤◌, IfOk, length};
+ghost use Rattle.std.specs.Prelude.{◌≡◌, ◌≤◌, IfOk, OnErr, length};
 ghost use Rattle.replay.specs.Lines.{Within};
 
 use std::io;
@@ -50,7 +50,8 @@ fn to_front(buf: &mut [u8], start: usize, end: usize) -> usize
 // where the input has ended or the buffer is full.
 fn read_more<R: Read>(reader: &mut R, buf: &mut [u8], n: usize) -> io::Result<usize>
     requires { n ≤ length buf.old }
-    ensures { IfOk result (λ m. (n ≤ m) × (m ≤ length buf.new)) }
+    ensures ok { IfOk result (λ m. (n ≤ m) × (m ≤ length buf.new)) }
+    ensures failed { OnErr result (length buf.new ≡ length buf.old) }
 {
     let got = reader.read(&mut buf[n..])?;
     Ok(n + got)
@@ -65,7 +66,8 @@ pub fn next_line<R: Read>(
     end: usize,
 ) -> io::Result<Held>
     requires { (start ≤ end) × (end ≤ length buf.old) }
-    ensures { IfOk result (λ held. Within held (length buf.new)) }
+    ensures ok { IfOk result (λ held. Within held (length buf.new)) }
+    ensures failed { OnErr result (length buf.new ≡ length buf.old) }
 {
     let stop = line_end(buf, start, end);
     if stop < end {

@@ -24,7 +24,7 @@
 // fails ends the program with its error.
 #![tactic(auto)]
 
-ghost use Rattle.std.specs.Prelude.{◌≤◌, IfOk, length};
+ghost use Rattle.std.specs.Prelude.{◌≡◌, ◌≤◌, IfOk, OnErr, length};
 ghost use Rattle.replay.specs.Lines.{Within};
 ghost use Rattle.replay.specs.Replies.{kept};
 
@@ -169,7 +169,8 @@ fn turn<R: Read, W: Write>(
     end: usize,
 ) -> io::Result<Held>
     requires { (start ≤ end) × (end ≤ length buf.old) }
-    ensures { IfOk result (λ held. Within held (length buf.new)) }
+    ensures ok { IfOk result (λ held. Within held (length buf.new)) }
+    ensures failed { OnErr result (length buf.new ≡ length buf.old) }
 {
     let held = next_line(reader, buf, start, end)?;
     let from = held.from;
