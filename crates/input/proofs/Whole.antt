@@ -1,12 +1,13 @@
--- An input that is read to its end into a buffer, as far as the buffer reaches.
-use Prim.Native.Nat.{ℕ, suc, ◌<◌, ◌≤◌}
+-- An input that is read to its end into a buffer, as far as the buffer reaches; and what a program writes that prints of the buffer.
+use Prim.Native.Nat.{ℕ, suc, ◌-◌, ◌<◌, ◌≤◌, ◌^◌}
 use native.Mathlib.Omega.{arith}
 use mathlib.Core.List.{List, [], ◌∷◌, ◌++◌, append-nil}
-use mathlib.Core.Path.{◌≡◌, refl, sym, ap, ◌∙◌}
+use mathlib.Core.Path.{◌≡◌, refl, sym, ap, subst, ◌∙◌}
 use lib.ListN.{length, take, set, length-append}
-use lib.Seq.{sets, take-nil}
-use Rattle.std.specs.Prelude.{Option, None, Some}
-use Rattle.std.specs.Io.KnownBytes.{IsAtEnd}
+use lib.Seq.{sets, take_at, take-nil}
+use Rattle.std.specs.Prelude.{Option, None, Some, Result, Ok, Err, OnOk, IfSome}
+use Rattle.std.specs.Io.KnownBytes.{Appends, IsAtEnd}
+use Rattle.listings.specs.store_listing.Listing.{Prints}
 use Rattle.input.specs.Input.{ReadsOn}
 
 sets_empty : (i : ℕ) (xs : List ℕ) → sets [] i xs ≡ []
@@ -42,3 +43,23 @@ read_whole before after xs r most (Some ys) read ended few =
       count = omega (arith, read.kept.end, ap length same);
       front = rw (same, read.kept.text) (same_front before came);
     }
+
+front_of_text : {l given text : List ℕ} {n : ℕ} → Prints l given text n → take n text ≡ l
+front_of_text {l} p = rw (p.front, p.count) (take_at l _ (length l) refl)
+
+-- Of an input that is known, what is printed of a buffer of this size, `own`, is what is printed of all the input, `all`; so that is
+-- written.
+module _ (size : ℕ) (own : ℕ → List ℕ → List ℕ) (all : List ℕ → List ℕ)
+    (same : (after xs : List ℕ) → length after ≡ size → take size xs ≡ take (length xs) after → own (length xs) after ≡ all xs) where
+  pub whole_written :
+      {A E : Type 0} (had left old new : Option (List ℕ)) (buffer after given text : List ℕ) (r n : ℕ) (result : Result A E)
+      → length buffer ≡ size → length after ≡ size → ReadsOn buffer 0 after r had left → (r < 2 ^ 64 - 1 → IsAtEnd left)
+      → Prints (own r after) given text n → OnOk result (Appends old new (take n text))
+      → OnOk result (IfSome had (λ xs. length xs < 2 ^ 64 - 1 → Appends old new (all xs)))
+  whole_written had left old new buffer after given text r n (Err e) room room' read ended prints written = tt
+  whole_written None left old new buffer after given text r n (Ok x) room room' read ended prints written = tt
+  whole_written (Some xs) left old new buffer after given text r n (Ok x) room room' read ended prints written = λ few.
+      let whole = read_whole buffer after xs r (2 ^ 64 - 1) left read ended few in
+      let front : take size xs ≡ take (length xs) after = ap (λ (k : ℕ). take k xs) (sym room) ∙ whole.front in
+      let e : own r after ≡ all xs = ap (λ (k : ℕ). own k after) whole.count ∙ same after xs room' front in
+      subst (Appends old new) (front_of_text prints ∙ e) written

@@ -9,6 +9,7 @@ use super::answers::LoadAnswer;
 use super::fields::put_record;
 use super::runs::{put_spheres, put_vertices};
 
+#[tactic(auto, unfolding(section::specs::profile::Refusals::refusal))]
 fn load_refusal(seed: u64, vertices: u64) -> u32
     ensures { result ≡ refusal (load_tests seed vertices) }
 {

@@ -1,2 +1,0 @@
--- The law of the program.
-pub mod Whole
