@@ -1,17 +1,20 @@
 #!/usr/bin/env python3
-"""edits_report.py [--jobs N] [CRATE[/LABEL]..]: says of each wrong program of the must-fail edits whether it is refused for what it changes.
+"""edits_report.py [--jobs N] [CRATE[/LABEL[/NAME]]..]: says of each wrong program of the must-fail edits whether it is refused for what it changes.
 
 Several wrong programs may stand in one .edit file, each under its comment, and rt says only that the file is refused. This applies
 each program by itself, in a copy of the repository, checks the function that it changes, and says one of
 
-    fact      the prover asks for a fact that does not hold; the first words are printed
-    shape     only names of the proof are gone: the code's shape changed, and the edit shows nothing
+    fact      an answer that is written for the function fails where its names stand, or a goal is shown false
+    unfound   no name is gone, and the check does not find a fact any more that it found alone before the edit
+    renamed   the change gave a goal or a test another name; with the answers renamed in step a fact fails, as above
+    shape     names of the proof are gone and nothing more is known: the edit shows nothing of the contract
     carried   only for another function's sake
     proved    the function is still proved; then the whole crate is checked, and what fails there is printed
     bad       an `old:` text does not stand once in its file, or the text does not compile
 
 A program that changes a definition, or a line outside every function, is tried on the whole crate. The last line counts; the
-exit status is 1 unless all are facts. Run it when every crate is proved: it begins with what `rt check` kept.
+exit status is 1 unless each is one of the first three. A goal left open beside a name that is gone is no fact: the answer may only
+have lost its name. Run it when every crate is proved: it begins with what `rt check` kept.
 """
 import os
 import re
@@ -27,7 +30,11 @@ IMPL = re.compile(r'^impl(?:<[^>]*>)? (\w+)', re.M)
 ERROR = re.compile(r'^(?:so far: )?(?:\./)?(\S+?\.(?:antt|rt)):(\d+):\d+: error: (.*)$', re.M)
 OPEN = re.compile(r'^note: (?:\./)?(\S+?\.rt):\d+:\d+: it is not (?:proved|known) (.*)$', re.M)
 NAMES = re.compile(r'has no field|is not in scope|has no `|no such (?:goal|name)|that can be named from here')
+MISSING = re.compile(r'(?:has no (?:field )?|`goal\.)`?([\w+-]+)`')
+GOAL = re.compile(r'\(`([^`]+)`\)')
 CARRIED = re.compile(r'was not admitted|were not admitted|was rejected|were rejected|this file exports no')
+
+ORDER = ['bad', 'fact', 'renamed', 'unfound', 'shape', 'carried', 'proved']
 
 
 def read(path):
@@ -83,18 +90,51 @@ def check(folder, only):
 
 
 def verdict(said):
-    facts = [f'{f}:{l}: {t}' for f, l, t in ERROR.findall(said) if not NAMES.search(t) and not CARRIED.search(t)]
-    facts += [f'{f}: not proved {t}' for f, t in OPEN.findall(said)]
-    if re.search(r'^\S+: error\[|error\[[\w-]+\]:', said, re.M):
-        return 'bad', re.search(r'.*error\[.*', said)[0]
-    if facts:
-        return 'fact', facts[0]
-    names = [t for _, _, t in ERROR.findall(said) if NAMES.search(t)]
-    if names:
-        return 'shape', names[0]
-    if ERROR.search(said) or re.search(r'^fn .*: (not proved|no proof)', said, re.M):
-        return 'carried', (ERROR.search(said) or re.search(r'^fn .*: (?:not proved|no proof).*', said, re.M))[0]
-    return 'proved', said.strip().split('\n')[-1]
+    """(kind, words, names that are gone, goals left open) of what a check said."""
+    errors = ERROR.findall(said)
+    facts = [f'{f}:{l}: {x}' for f, l, x in errors if not NAMES.search(x) and not CARRIED.search(x)]
+    opened = OPEN.findall(said)
+    false = [f'{f}: {x}' for f, x in opened if 'allow values at which' in x]
+    gone = sorted({n for _, _, x in errors if NAMES.search(x) for n in MISSING.findall(x)})
+    goals = [n for _, x in opened for n in GOAL.findall(x)]
+    bad = re.search(r'.*error\[[\w-]+\].*', said)
+    if bad:
+        return 'bad', bad[0], gone, goals
+    if facts or false:
+        return 'fact', (facts + false)[0], gone, goals
+    if any(NAMES.search(x) for _, _, x in errors):
+        return 'shape', next(x for _, _, x in errors if NAMES.search(x)), gone, goals
+    if opened:
+        return 'unfound', f'{opened[0][0]}: {opened[0][1]}', gone, goals
+    if errors or re.search(r'^fn .*: (not proved|no proof)', said, re.M):
+        return 'carried', (ERROR.search(said) or re.search(r'^fn .*: (?:not proved|no proof).*', said, re.M))[0], gone, goals
+    return 'proved', said.strip().split('\n')[-1], gone, goals
+
+
+def tests_of(names):
+    """The tests that names of goals speak of: returns-then-d-ge27 has d-ge27."""
+    return [m for n in names for m in re.findall(r'-(?:then|else)-(.+?)(?:-clause-.*)?$', n)]
+
+
+def renamed(folder, answers, gone, goals, kept):
+    """Renames in the answers each test whose name is gone to one that a goal has now; True if something was renamed."""
+    old = [m for m in tests_of(gone) + [n[3:] for n in gone if n.startswith('if-')] if m]
+    new = tests_of(goals)
+    done = False
+    for path in answers:
+        if not os.path.isfile(path):
+            continue
+        text = read(path)
+        kept.setdefault(path, text)
+        for a in dict.fromkeys(old):
+            same = [b for b in dict.fromkeys(new) if b != a and b.split('-')[0] == a.split('-')[0]] or [b for b in dict.fromkeys(new) if b != a]
+            if same:
+                text = re.sub(r'(?<=-)' + re.escape(a) + r'(?![\w])', lambda _: same[0], text)
+        if text != read(path):
+            done = True
+            with open(path, 'w', encoding='utf8') as f:
+                f.write(text)
+    return done
 
 
 def one(room, crate, replaced):
@@ -111,11 +151,18 @@ def one(room, crate, replaced):
             with open(path, 'w', encoding='utf8') as f:
                 f.write(text.replace(old, new))
         if '' not in only:
-            told = [verdict(check(folder, it)) for it in sorted(only)]
-            best = next((it for it in told if it[0] in ('fact', 'bad')), None) or next((it for it in told if it[0] != 'proved'), None)
-            if best:
+            told = []
+            for it in sorted(only):
+                kind, words, gone, goals = verdict(check(folder, it))
+                answers = [f'{folder}/proofs/{"/".join(it.split("::")[1:])}/{n}.antt' for n in ('Answers', 'Invariants')]
+                if kind == 'shape' and renamed(folder, answers, gone, goals, kept):
+                    again = verdict(check(folder, it))
+                    kind, words = ('renamed', again[1]) if again[0] == 'fact' else (again[0], again[1])
+                told.append((kind, words))
+            best = min(told, key=lambda it: ORDER.index(it[0]))
+            if best[0] != 'proved':
                 return best
-        kind, words = verdict(check(folder, ''))
+        kind, words = verdict(check(folder, ''))[:2]
         return (kind if '' in only else 'proved'), words
     finally:
         for path, text in kept.items():
@@ -134,6 +181,9 @@ def main():
             label = n.removesuffix('.edit')
             if n.endswith('.edit') and (not asked or crate in asked or f'{crate}/{label}' in asked):
                 rows += [(crate, label, name, replaced) for name, replaced in programs(f'{folder}/{n}')]
+            elif n.endswith('.edit'):
+                wanted = [it.split('/')[2] for it in asked if it.startswith(f'{crate}/{label}/')]
+                rows += [(crate, label, name, it) for name, it in programs(f'{folder}/{n}') if name.split(':')[0] in wanted]
     top, rooms = tempfile.mkdtemp(prefix='edits-'), Queue()
     try:
         for i in range(jobs):
@@ -155,7 +205,7 @@ def main():
     finally:
         shutil.rmtree(top, ignore_errors=True)
     print(', '.join(f'{kinds.count(k)} {k}' for k in sorted(set(kinds))))
-    sys.exit(0 if set(kinds) <= {'fact'} else 1)
+    sys.exit(0 if set(kinds) <= {'fact', 'unfound', 'renamed'} else 1)
 
 
 if __name__ == '__main__':
