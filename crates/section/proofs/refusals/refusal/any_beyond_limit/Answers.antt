@@ -1,21 +1,17 @@
 -- `section::refusals::refusal::any_beyond_limit` meets its contract: what is not yet tried decides for the whole list.
-use borrow.Author.Rules.{rules}
 use Rattle.section.proofs.profile.Refusals.AnyOf.{any_of_more, any_of_at, any_of_end}
 use Rattle.section.proofs.refusals.refusal.any_beyond_limit.Goals as goal
 
-pub loop-i-preserved : goal.loop-i-preserved
-loop-i-preserved c = (
-  search rules,
-  any_of_more _ _ _ c.loop-i.invariant.1
-      c.loop-i-test.true
-      (rw (← c.abs.ensures, c.if-abs.true)),
-)
+pub loop-x-preserved : goal.loop-x-preserved
+loop-x-preserved c = any_of_more _ _ _ c.loop-x.invariant
+    c.loop-x-test.true
+    (rw (← c.abs.ensures, c.if-not-abs.false))
 
-pub returns-else-abs : goal.returns-else-abs
-returns-else-abs c =
-    any_of_at _ _ _ c.loop-i.invariant.1
-    c.loop-i-test.true
-    (rw (← c.abs.ensures, c.if-abs.false))
+pub returns-then-not-abs : goal.returns-then-not-abs
+returns-then-not-abs c =
+    any_of_at _ _ _ c.loop-x.invariant
+    c.loop-x-test.true
+    (rw (← c.abs.ensures, c.if-not-abs.true))
 
 pub returns : goal.returns
-returns c = any_of_end _ _ _ c.loop-i.invariant.1 c.loop-i-test.false
+returns c = any_of_end _ _ _ c.loop-x.invariant c.loop-x-test.false

@@ -1,13 +1,9 @@
 -- `section::refusals::refusal::any_beyond_limit` meets its contract: what is not yet tried decides for the whole list.
-use Prim.Native.Nat.{◌≤◌, ◌-◌}
 use mathlib.Core.Path.{◌≡◌}
-use lib.ListN.{length, drop}
+use lib.ListN.{drop}
 use Rattle.section.specs.profile.Refusals.{any_of}
 use Rattle.section.specs.profile.Steps.{beyond_limit}
 use Rattle.section.proofs.refusals.refusal.any_beyond_limit.Given as goal
 
-abbrev pub invariant-loop-i : goal.invariant-loop-i
-invariant-loop-i l = (l.i ≤ length l.l) × (any_of beyond_limit (drop l.i l.l) ≡ any_of beyond_limit l.l)
-
-abbrev pub decreases-loop-i : goal.decreases-loop-i
-decreases-loop-i l = length l.l - l.i
+abbrev pub invariant-loop-x : goal.invariant-loop-x
+invariant-loop-x l = any_of beyond_limit (drop l.x-index l.l) ≡ any_of beyond_limit l.l
