@@ -1,9 +1,11 @@
 // The finest settings, and number 18.
 ghost use Rattle.std.specs.Prelude.{◌≡◌};
+ghost use Rattle.section.specs.profile.Numbers.{refused_by};
 ghost use Rattle.section.specs.profile.Refusals.{refusal};
 ghost use Rattle.walk.specs.settings.Settings as settings;
 
 use super::shapes::Settings;
+use section::Refusal;
 
 // Those of every call that takes none.
 pub fn finest() -> Settings
@@ -17,8 +19,8 @@ pub fn finest() -> Settings
 }
 
 // Number 18: a setting is out of range or not finite.
-pub fn settings_refusal(t: Settings) -> u32
-    ensures { result ≡ refusal (settings.settings_tests t) }
+pub fn settings_refusal(t: Settings) -> Result<(), Refusal>
+    ensures { refused_by result ≡ refusal (settings.settings_tests t) }
 {
     let tolerance = t.tolerance;
     let most = t.most;
@@ -26,19 +28,19 @@ pub fn settings_refusal(t: Settings) -> u32
     if tolerance >= 1e-9 {
         if tolerance <= 1.0 {
             if most < 1 {
-                return 18;
+                return Err(Refusal::BadSettings);
             }
             if 8192 < most {
-                return 18;
+                return Err(Refusal::BadSettings);
             }
             if intervals < 1 {
-                return 18;
+                return Err(Refusal::BadSettings);
             }
             if 64 < intervals {
-                return 18;
+                return Err(Refusal::BadSettings);
             }
-            return 0;
+            return Ok(());
         }
     }
-    18
+    Err(Refusal::BadSettings)
 }
