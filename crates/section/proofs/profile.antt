@@ -3,7 +3,6 @@
 pub mod Fold
 pub mod Each
 pub mod Steps
-pub mod Numbered
 pub mod Numbers
 pub mod Numbered
 pub mod Nearest
