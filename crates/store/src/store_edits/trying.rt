@@ -36,11 +36,7 @@ fn ending(bytes: &[u8]) -> [u8; 40]
     ensures { result ≡ edits_specs.ending bytes.now }
 {
     let mut new = [0u8; 40];
-    let mut i = 4;
-    while i < 40 {
-        new[i] = bytes[i];
-        i += 1;
-    }
+    new[4..].copy_from_slice(&bytes[4..]);
     new
 }
 
