@@ -1,17 +1,12 @@
 // Square root of an f64, correctly rounded: a guess, an exact test of squares that decides, and a
 // bisection where it does not.
-ghost use Rattle.std.specs.Prelude.{◌≡◌, ◌+◌, ◌*◌, ◌/◌, ◌%◌, ◌^◌, ◌<◌, ◌≤◌};
+ghost use Rattle.std.specs.Prelude.{◌≡◌, ◌+◌, ◌*◌, ◌/◌, ◌%◌, ◌^◌, ◌<◌, ◌≤◌, IfSome};
 ghost use Rattle.std.specs.Float.{binary64};
 ghost use Rattle.arith.specs.roots.Steps.{Significand, NearestHalf, Normalized, Subnormal, Radicand, SqrtIs, SqrtOf};
 ghost use Rattle.arith.specs.roots.Roots as roots;
 
+use crate::bits::{INF, T52, T53, T63};
 use crate::roots::{bisect, guessed, in_parts, nearest_of_three, widened};
-
-const T52: u64 = 0x10_0000_0000_0000;
-
-const T63: u64 = 0x8000_0000_0000_0000;
-
-const INF: u64 = 0x7ff0_0000_0000_0000;
 
 // m, or 2 * m at an odd exponent
 fn radicand(m: u64, e: u64) -> u64
@@ -27,7 +22,7 @@ fn sqrt_significand(m: u64) -> u64
     ensures { NearestHalf (m * 2 ^ 54) result }
 {
     let z = widened(m);
-    bisect(z, 0, 0xf_ffff_ffff_ffff, 0x1f_ffff_ffff_ffff)
+    bisect(z, false, T52 - 1, T53 - 1)
 }
 
 // The bits of the root of m * 2^(e - 1024) smallest values, by bisection.
@@ -40,21 +35,18 @@ fn sqrt_searched(m: u64, e: u64) -> u64
     (e / 2 - 1) * T52 + r
 }
 
-// The same of x, whose bits are b, by a guess that is tested; 0: not decided.
-fn sqrt_tested(x: f64, b: u64) -> u64
+// The same of x, whose bits are b, if a guess that is tested decides.
+fn sqrt_tested(x: f64, b: u64) -> Option<u64>
     requires { (2 ^ 52 ≤ b) × (b < 2047 * 2 ^ 52) }
-    ensures { 0 < result → SqrtIs (b % 2 ^ 52 + 2 ^ 52) (b / 2 ^ 52 + 1023) result }
+    ensures { IfSome result (SqrtIs (b % 2 ^ 52 + 2 ^ 52) (b / 2 ^ 52 + 1023)) }
 {
     let m = b % T52 + T52;
     let e = b / T52 + 1023;
     let z = radicand(m, e);
     let g = guessed(x, b / 2);
     let w = in_parts(z);
-    let v = nearest_of_three(w, g);
-    if v < 3 {
-        return (e / 2 - 1) * T52 + (g + v - 1);
-    }
-    0
+    let r = nearest_of_three(w, g)?;
+    Some((e / 2 - 1) * T52 + r)
 }
 
 // The bits of the root of b smallest values.
@@ -78,8 +70,7 @@ pub fn sqrt(x: f64) -> f64
         let b = f64::to_bits(x);
         if b < INF {
             if b >= T52 {
-                let r = sqrt_tested(x, b);
-                if r > 0 {
+                if let Some(r) = sqrt_tested(x, b) {
                     return f64::from_bits(r);
                 }
                 return f64::from_bits(sqrt_searched(b % T52 + T52, b / T52 + 1023));

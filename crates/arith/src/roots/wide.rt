@@ -3,6 +3,8 @@
 ghost use Rattle.std.specs.Prelude.{◌≡◌, ◌+◌, ◌*◌, ◌/◌, ◌%◌, ◌^◌, ◌<◌, ◌≤◌};
 ghost use Rattle.arith.specs.roots.Steps.{AboutParts, Limbs, PartsOf, whole};
 
+use crate::bits::T54;
+
 // hi * 2^56 + lo
 #[derive(Clone, Copy)]
 pub struct Wide {
@@ -68,7 +70,7 @@ pub fn widened(m: u64) -> Wide
 {
     Wide {
         hi: m / 4,
-        lo: m % 4 * 0x40_0000_0000_0000,
+        lo: m % 4 * T54,
     }
 }
 

@@ -18,11 +18,11 @@ pub float_to_bits-b : goal.float_to_bits-b
 float_to_bits-b c = squares_right _ _ c.if-n.true
 
 pub float_from_bits-result : goal.float_from_bits-result
-float_from_bits-result c = no_nan _ (c.hypot_quick-r.ensures c.if-r-gt0.true).hypot_is.fine
+float_from_bits-result c = no_nan _ c.in-Some.ensures.hypot_is.fine
 
-pub returns-then-r-gt0 : goal.returns-then-r-gt0
-returns-then-r-gt0 c =
-    let h = c.hypot_quick-r.ensures c.if-r-gt0.true in
+pub returns-in-Some : goal.returns-in-Some
+returns-in-Some c =
+    let h = c.in-Some.ensures in
     hypot_by_bits _ _ _ (held _ c.well_formed.0.1)
     (held _ c.well_formed.1.0.1) h.p_fine h.q_fine h.hypot_is
 

@@ -19,7 +19,6 @@ hypot_significand-s-requires c =
     let s = any_shift _ _ _ _ c.exponent-eb.ensures
     c.exponent-es.ensures c.requires.ordered in
     let p = positive _ c.if-big-eq0.false in
-    let q = c.sticky-t.ensures.bit in
     search rules
 
 pub returns-then-r-lt-INF : goal.returns-then-r-lt-INF

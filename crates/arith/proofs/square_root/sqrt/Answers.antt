@@ -20,12 +20,11 @@ float_to_bits-b c = like_itself _ c.if-x.true
 
 pub float_from_bits-result : goal.float_from_bits-result
 float_from_bits-result c = no_nan _ (le_of_lt (normal_sqrt _ _ c.if-b-ge-T52.true
-    c.if-b-lt-INF.true (c.sqrt_tested-r.ensures c.if-r-gt0.true)).fine)
+    c.if-b-lt-INF.true c.in-Some.ensures).fine)
 
-pub returns-then-r-gt0 : goal.returns-then-r-gt0
-returns-then-r-gt0 c = sqrt_by_bits _ _ (held _ c.well_formed.0.1)
-    (normal_sqrt _ _ c.if-b-ge-T52.true c.if-b-lt-INF.true
-    (c.sqrt_tested-r.ensures c.if-r-gt0.true))
+pub returns-in-Some : goal.returns-in-Some
+returns-in-Some c = sqrt_by_bits _ _ (held _ c.well_formed.0.1)
+    (normal_sqrt _ _ c.if-b-ge-T52.true c.if-b-lt-INF.true c.in-Some.ensures)
 
 pub float_from_bits-result-then-b-ge-T52 : goal.float_from_bits-result-then-b-ge-T52
 float_from_bits-result-then-b-ge-T52 c = no_nan _ (le_of_lt c.sqrt_searched.ensures.fine)
