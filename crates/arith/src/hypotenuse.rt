@@ -8,7 +8,7 @@ ghost use Rattle.arith.specs.roots.Steps.{Rounded, Scaled, Significand, Sticky};
 ghost use Rattle.arith.specs.roots.Roots as roots;
 
 use crate::bits::{INF, T52, T53, T63};
-use crate::roots::{bisect, guessed, nearest_of_three, square, sum_of_squares, sum_parts};
+use crate::roots::{Parts, Wide, bisect, guessed, nearest_of_three};
 use std::num::wrapping_sub_u64;
 
 // The exponent of the bits p: they stand for a multiple of 2^exponent smallest values.
@@ -23,7 +23,7 @@ fn sticky(m: u64, d: u64) -> bool
     requires { (m < 2 ^ 53) × (d < 27) }
     ensures { Sticky m d result }
 {
-    let q = square(2 * m);
+    let q = Wide::square(2 * m);
     let low = q.lo >> (2 * d);
     low << (2 * d) != q.lo
 }
@@ -35,7 +35,7 @@ fn hypot_significand(mb: u64, ms: u64, d: u64, t: bool) -> u64
     ensures { let z = (2 * mb) * (2 * mb) + (2 * ms) * (2 * ms) / 2 ^ (2 * d) in
         Rounded z (from_bool t) (mb - 1) (mb + 2 ^ 52) result }
 {
-    let z = sum_of_squares(2 * mb, 2 * ms, d);
+    let z = Wide::sum_of_squares(2 * mb, 2 * ms, d);
     bisect(z, t, mb - 1, mb + T52)
 }
 
@@ -44,8 +44,7 @@ fn nearest_half(a: u64, b: u64, d: u64, g: u64) -> Option<u64>
     requires { (a < 2 ^ 54) × (b < 2 ^ 54) × (d < 27) × Significand g }
     ensures { IfSome result (NearestHalf (a * a + b * b / 2 ^ (2 * d))) }
 {
-    let z = sum_parts(a, b, d);
-    nearest_of_three(z, g)
+    nearest_of_three(Parts::sum_of_squares(a, b, d), g)
 }
 
 // The bits of the hypotenuse of two finite values, by bisection.

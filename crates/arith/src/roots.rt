@@ -5,4 +5,4 @@ mod wide;
 
 pub use guess::guessed;
 pub use midpoint::{bisect, nearest_of_three};
-pub use wide::{Parts, Wide, in_parts, square, sum_of_squares, sum_parts, widened};
+pub use wide::{Parts, Wide};

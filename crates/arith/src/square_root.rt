@@ -6,7 +6,7 @@ ghost use Rattle.arith.specs.roots.Steps.{Significand, NearestHalf, Normalized, 
 ghost use Rattle.arith.specs.roots.Roots as roots;
 
 use crate::bits::{INF, T52, T53, T63};
-use crate::roots::{bisect, guessed, in_parts, nearest_of_three, widened};
+use crate::roots::{Parts, Wide, bisect, guessed, nearest_of_three};
 
 // m, or 2 * m at an odd exponent
 fn radicand(m: u64, e: u64) -> u64
@@ -21,8 +21,7 @@ fn sqrt_significand(m: u64) -> u64
     requires { (2 ^ 52 ≤ m) × (m + 2 ≤ 2 ^ 54) }
     ensures { NearestHalf (m * 2 ^ 54) result }
 {
-    let z = widened(m);
-    bisect(z, false, T52 - 1, T53 - 1)
+    bisect(Wide::widened(m), false, T52 - 1, T53 - 1)
 }
 
 // The bits of the root of m * 2^(e - 1024) smallest values, by bisection.
@@ -44,8 +43,7 @@ fn sqrt_tested(x: f64, b: u64) -> Option<u64>
     let e = b / T52 + 1023;
     let z = radicand(m, e);
     let g = guessed(x, b / 2);
-    let w = in_parts(z);
-    let r = nearest_of_three(w, g)?;
+    let r = nearest_of_three(Parts::widened(z), g)?;
     Some((e / 2 - 1) * T52 + r)
 }
 

@@ -12,12 +12,6 @@ sq x = x * x
 abbrev pub whole : Wide → ℕ
 whole z = z.hi * 2 ^ 56 + z.lo
 
--- z is the number v, in limbs of at most h and l bits
-pub record Limbs (v h l : ℕ) (z : Wide) : Type 0 where
-  pub value : whole z ≡ v
-  pub hi_small : z.hi < 2 ^ h
-  pub lo_small : z.lo < 2 ^ l
-
 -- ---- numbers in three parts
 abbrev pub total : Parts → ℕ
 total z = z.h * 2 ^ 56 + z.m * 2 ^ 29 + z.l
@@ -33,9 +27,6 @@ pub record PartsOf (v : ℕ) (z : Parts) : Type 0 where
 pub record AboutParts (v : ℕ) (z : Parts) : Type 0 where
   pub least : total z ≤ v
   pub most : v ≤ total z + 1
-  pub h_small : z.h < 2 ^ 54
-  pub m_small : z.m < 2 ^ 56
-  pub l_small : z.l < 2 ^ 58
 
 -- ---- candidates
 -- 53 bits, the highest set

@@ -5,17 +5,17 @@ ghost use Rattle.std.specs.Int.{from_bool};
 ghost use Rattle.arith.specs.roots.Steps.{whole, total, Significand, NearestOfThree, Tells, RoundsUpAt, RoundsDownAt};
 ghost use Rattle.arith.specs.roots.Steps.{RoundsUp, RoundsDown, Between, Rounded};
 
-use super::wide::{Parts, Wide, square, square_parts};
+use super::wide::{Parts, Wide};
 use crate::bits::{T53, T54};
 use std::num::wrapping_sub_u64;
 
 // Which of k - 1, k and k + 1 is nearest to half the root of z + f, for every f from 0 up to, and
 // not with, 2, if the test decides.
 pub fn nearest_of_three(z: Parts, k: u64) -> Option<u64>
-    requires { (z.h < 2 ^ 54) × (z.m < 2 ^ 56) × (z.l < 2 ^ 58) × Significand k }
+    requires { Significand k }
     ensures { IfSome result (NearestOfThree (total z) k) }
 {
-    let s = square_parts(2 * k);
+    let s = Parts::square(2 * k);
     // z - s, from the highest part on: each step must be small for the next one to fit
     let h = wrapping_sub_u64(z.h + 0x2000_0000, s.h);
     if h >= 0x4000_0000 {
@@ -37,11 +37,11 @@ pub fn nearest_of_three(z: Parts, k: u64) -> Option<u64>
 
 // Whether the root lies above the midpoint m / 2, or at it with k odd.
 fn rounds_up_at(z: Wide, t: bool, k: u64, m: u64) -> bool
-    requires { (z.lo < 2 ^ 56) × (m < 2 ^ 55) }
+    requires { m < 2 ^ 55 }
     ensures { Tells (RoundsUpAt (whole z) (from_bool t) k m)
         (RoundsDownAt (whole z) (from_bool t) k m) result }
 {
-    let s = square(m);
+    let s = Wide::square(m);
     if s.hi != z.hi {
         return s.hi < z.hi;
     }
@@ -53,7 +53,7 @@ fn rounds_up_at(z: Wide, t: bool, k: u64, m: u64) -> bool
 
 // Whether the root lies above the midpoint of candidate k and the next, or at it with k odd.
 fn rounds_up(z: Wide, t: bool, k: u64) -> bool
-    requires { (z.lo < 2 ^ 56) × (k < 2 ^ 53 + 2 ^ 52) }
+    requires { k < 2 ^ 53 + 2 ^ 52 }
     ensures { Tells (RoundsUp (whole z) (from_bool t) k) (RoundsDown (whole z) (from_bool t) k) result }
 {
     if k < T53 {
@@ -65,7 +65,7 @@ fn rounds_up(z: Wide, t: bool, k: u64) -> bool
 
 // The candidate above lo0 and up to hi0 that the root rounds to, by bisection.
 pub fn bisect(z: Wide, t: bool, lo0: u64, hi0: u64) -> u64
-    requires { (z.lo < 2 ^ 56) × (hi0 ≤ 2 ^ 53 + 2 ^ 52) × Between (whole z) (from_bool t) lo0 hi0 }
+    requires { (hi0 ≤ 2 ^ 53 + 2 ^ 52) × Between (whole z) (from_bool t) lo0 hi0 }
     ensures { Rounded (whole z) (from_bool t) lo0 hi0 result }
 {
     let mut lo = lo0;

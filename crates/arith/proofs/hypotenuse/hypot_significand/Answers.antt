@@ -56,7 +56,7 @@ quotient a b d h =
 pub bisect-requires : goal.bisect-requires
 bisect-requires c =
     let q = quotient c.args.mb c.args.ms c.args.d (omega arith) in
-    let e = c.sum_of_squares-z.ensures.value in
+    let e = c.sum_of_squares-z.ensures in
     let u = first (whole c.sum_of_squares-z.result) (from_bool c.args.t) c.args.mb (omega arith)
     (omega arith) (omega arith) in
     let v = last (whole c.sum_of_squares-z.result) (from_bool c.args.t) c.args.mb (omega arith)
@@ -65,5 +65,5 @@ bisect-requires c =
 
 pub returns : goal.returns
 returns c = subst (λ (x : ℕ). Rounded x (from_bool c.args.t) (c.args.mb - 1)
-    (c.args.mb + 2 ^ 52) c.bisect.result) c.sum_of_squares-z.ensures.value
+    (c.args.mb + 2 ^ 52) c.bisect.result) c.sum_of_squares-z.ensures
     c.bisect.ensures

@@ -4,4 +4,4 @@ use Rattle.arith.proofs.roots.Root.HypotSticky.{sticky_told}
 use Rattle.arith.proofs.hypotenuse.sticky.Goals as goal
 
 pub returns : goal.returns
-returns c = sticky_told _ _ _ (omega arith) c.square-q.ensures
+returns c = sticky_told _ _ c.square-q.result (omega arith) c.square-q.ensures

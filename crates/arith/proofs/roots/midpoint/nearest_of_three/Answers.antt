@@ -64,5 +64,5 @@ returns-then-rest-k c =
     let r = stretch _ _ _ _ c.from.ensures c.from-2.ensures c.if-rest-k.true in
     let m = r.most in
     let e = plain _ _ _ c.wrapping_sub_u64-e.ensures.value (omega arith) (omega arith) in
-    let s = c.square_parts-s.ensures.value in
+    let s = c.square-s.ensures.value in
     chosen _ _ _ _ (omega arith) (joined _ _ _ _ _ _ _ _ _ _ h t e s) r
