@@ -9,7 +9,6 @@ ghost use Rattle.arith.specs.roots.Roots as roots;
 
 use crate::bits::{INF, T52, T53, T63};
 use crate::roots::{Parts, Wide, bisect, guessed, nearest_of_three};
-use std::num::wrapping_sub_u64;
 
 // The exponent of the bits p: they stand for a multiple of 2^exponent smallest values.
 fn exponent(p: u64) -> u64
@@ -90,7 +89,7 @@ fn hypot_tested(n: f64, nb: u64, big: u64, small: u64) -> Option<u64>
     }
     // the exponent that the root is likely to have, and how far it is below the one above big's
     let er = (nb / 2 + 0x1ff8_0000_0000_0000) / T52;
-    let s = wrapping_sub_u64(eb + 1, er);
+    let s = (eb + 1).wrapping_sub(er);
     if s >= 2 {
         return None;
     }

@@ -7,7 +7,6 @@ ghost use Rattle.arith.specs.roots.Steps.{RoundsUp, RoundsDown, Between, Rounded
 
 use super::wide::{Parts, Wide};
 use crate::bits::{T53, T54};
-use std::num::wrapping_sub_u64;
 
 // Which of k - 1, k and k + 1 is nearest to half the root of z + f, for every f from 0 up to, and
 // not with, 2, if the test decides.
@@ -17,16 +16,16 @@ pub fn nearest_of_three(z: Parts, k: u64) -> Option<u64>
 {
     let s = Parts::square(2 * k);
     // z - s, from the highest part on: each step must be small for the next one to fit
-    let h = wrapping_sub_u64(z.h + 0x2000_0000, s.h);
+    let h = (z.h + 0x2000_0000).wrapping_sub(s.h);
     if h >= 0x4000_0000 {
         return None;
     }
-    let t = wrapping_sub_u64(h * 0x800_0000 + z.m, s.m + 0xff_ffff_c000_0000);
+    let t = (h * 0x800_0000 + z.m).wrapping_sub(s.m + 0xff_ffff_c000_0000);
     if t >= 0x8000_0000 {
         return None;
     }
     // z - (2 * k)^2 + 12 * k - 10: 8 * k of it to a candidate
-    let e = wrapping_sub_u64(t * 0x2000_0000 + z.l + 12 * k, s.l + 0x800_0000_0000_000a);
+    let e = (t * 0x2000_0000 + z.l + 12 * k).wrapping_sub(s.l + 0x800_0000_0000_000a);
     let v = u64::from(e >= 8 * k) + u64::from(e >= 16 * k);
     let rest = e - v * (8 * k);
     if rest < 8 * k - 10 {
@@ -42,6 +41,7 @@ fn rounds_up_at(z: Wide, t: bool, k: u64, m: u64) -> bool
         (RoundsDownAt (whole z) (from_bool t) k m) result }
 {
     let s = Wide::square(m);
+    // limb by limb, which is faster than a derived order
     if s.hi != z.hi {
         return s.hi < z.hi;
     }

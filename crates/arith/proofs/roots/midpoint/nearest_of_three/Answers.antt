@@ -1,13 +1,13 @@
 -- `arith::roots::midpoint::nearest_of_three`. e counts from the lower end of three stretches of 8 k, one a candidate; less than 8 k - 10
 -- of its stretch lies below e, and the 10 at its end leave room for f.
-use Rattle.std.proofs.Common.{◌≡◌, ℕ, zero, suc, ◌+◌, ◌-◌, ◌*◌, ◌%◌, ◌^◌, ◌<◌, ◌≤◌, leb, subst, arith, rules}
+use Rattle.std.proofs.Common.{◌≡◌, ℕ, zero, suc, ◌+◌, ◌-◌, ◌*◌, ◌%◌, ◌^◌, ◌<◌, ◌≤◌, leb, subst, lt_trans, arith, rules}
 use Rattle.std.specs.Int.{from_bool}
 use Rattle.arith.specs.roots.Steps.{NearestHalf, NearestOfThree}
 use Rattle.arith.proofs.roots.midpoint.nearest_of_three.Goals as goal
 
 -- a difference that does not wrap
-plain : (r b a : ℕ) → (r + b) % 2 ^ 64 ≡ a → r < 2 ^ 63 → b < 2 ^ 63 → r + b ≡ a
-plain r b a e h k = omega arith
+plain : (a b : ℕ) → (a + (2 ^ 64 - b)) % 2 ^ 64 < 2 ^ 63 → a < 2 ^ 64 → b < 2 ^ 63 → (a + (2 ^ 64 - b)) % 2 ^ 64 + b ≡ a
+plain a b h k l = omega arith
 
 -- the three differences as one
 joined : (zh zm zl sh sm sl h t e k : ℕ) → h + sh ≡ zh + 0x20000000 → t + (sm + 0xffffffc0000000) ≡ h * 0x8000000 + zm
@@ -59,10 +59,15 @@ chosen z k e v p = subst
 
 pub returns-then-rest-k : goal.returns-then-rest-k
 returns-then-rest-k c =
-    let h = plain _ _ _ c.wrapping_sub_u64-h.ensures.value (omega arith) (omega arith) in
-    let t = plain _ _ _ c.wrapping_sub_u64-t.ensures.value (omega arith) (omega arith) in
+    let z = c.args.z in
+    let s = c.square-s.result in
+    let k = c.args.k in
+    let h = (z.h + 0x20000000 + (2 ^ 64 - s.h)) % 2 ^ 64 in
+    let t = (h * 0x8000000 + z.m + (2 ^ 64 - (s.m + 0xffffffc0000000))) % 2 ^ 64 in
     let r = stretch _ _ _ _ c.from.ensures c.from-2.ensures c.if-rest-k.true in
-    let m = r.most in
-    let e = plain _ _ _ c.wrapping_sub_u64-e.ensures.value (omega arith) (omega arith) in
-    let s = c.square-s.ensures.value in
-    chosen _ _ _ _ (omega arith) (joined _ _ _ _ _ _ _ _ _ _ h t e s) r
+    chosen _ _ _ _ (omega arith)
+    (joined z.h z.m z.l s.h s.m s.l h t _ k
+    (plain (z.h + 0x20000000) s.h (omega arith) (omega arith) (omega arith))
+    (plain (h * 0x8000000 + z.m) (s.m + 0xffffffc0000000) (omega arith) (omega arith) (omega arith))
+    (plain (t * 0x20000000 + z.l + 12 * k) (s.l + 0x80000000000000a) (lt_trans r.most (omega arith)) (omega arith) (omega arith))
+    c.square-s.ensures.value) r
