@@ -14,7 +14,7 @@ use crate::roots::{Parts, Wide, bisect, guessed, nearest_of_three};
 fn exponent(p: u64) -> u64
     ensures { result ≡ p / 2 ^ 52 - 1 }
 {
-    if p < T52 { 0 } else { p / T52 - 1 }
+    (p / T52).saturating_sub(1)
 }
 
 // Whether (2 * m)^2 / 4^d has a rest.
@@ -64,8 +64,7 @@ fn hypot_searched(big: u64, small: u64) -> u64
     let ms = small - es * T52;
     let t = sticky(ms, d);
     let s = hypot_significand(mb, ms, d, t);
-    let r = eb * T52 + s;
-    if r < INF { r } else { INF }
+    (eb * T52 + s).min(INF)
 }
 
 // m * 2^s: m, or 2 * m where the root lies in big's own binade

@@ -52,13 +52,9 @@ fn sqrt_subnormal(b: u64) -> u64
     requires { Subnormal b }
     ensures { SqrtOf b result }
 {
-    let mut m = b;
-    let mut e: u64 = 1024;
-    while m < T52 {
-        m = 2 * m;
-        e -= 1;
-    }
-    sqrt_searched(m, e)
+    // so many places that the highest digit comes to 2^52
+    let s = b.leading_zeros() - 11;
+    sqrt_searched(b << s, 1024 - u64::from(s))
 }
 
 pub fn sqrt(x: f64) -> f64

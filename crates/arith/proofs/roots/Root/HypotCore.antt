@@ -38,11 +38,17 @@ pub infinity : of_bits binary64 (2047 * 2 ^ 52) ≡ inf false
 unfolding of_bits
 infinity = refl
 
-pub within : (p q r : ℕ) → RootIs (sq (ticks_of p) + sq (ticks_of q)) r → r < 2047 * 2 ^ 52 → HypotIs p q r
+within : (p q r : ℕ) → RootIs (sq (ticks_of p) + sq (ticks_of q)) r → r < 2047 * 2 ^ 52 → HypotIs p q r
 within p q r h l = record { fine = le_of_lt l; is = h.in_range l }
 
-pub over : (p q r : ℕ) → RootIs (sq (ticks_of p) + sq (ticks_of q)) r → 2047 * 2 ^ 52 ≤ r → HypotIs p q (2047 * 2 ^ 52)
+over : (p q r : ℕ) → RootIs (sq (ticks_of p) + sq (ticks_of q)) r → 2047 * 2 ^ 52 ≤ r → HypotIs p q (2047 * 2 ^ 52)
 over p q r h l = record { fine = le_refl (2047 * 2 ^ 52); is = h.beyond l ∙ sym infinity }
+
+pub capped : (p q r : ℕ) → RootIs (sq (ticks_of p) + sq (ticks_of q)) r → HypotIs p q (min r (2047 * 2 ^ 52))
+capped p q r h = elim (decide (2047 * 2 ^ 52) r) [
+  | inl l ↦ subst (λ (x : ℕ). HypotIs p q x) (sym (min-eq_right l)) (over p q r h l)
+  | inr l ↦ subst (λ (x : ℕ). HypotIs p q x) (sym (min-eq_left (le_of_lt l))) (within p q r h l)
+]
 
 at_zero : root binary64 (sq (ticks_of 0) + sq (ticks_of 0)) ≡ of_bits binary64 0
 unfolding ticks_of root of_bits

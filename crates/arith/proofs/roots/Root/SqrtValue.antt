@@ -1,5 +1,5 @@
 -- What `sqrt` of a value is, by its bits: normal, subnormal, zero, negative, infinite, NaN.
-use Rattle.std.proofs.Common.{◌≡◌, ℕ, zero, suc, ◌+◌, ◌-◌, ◌*◌, ◌/◌, ◌%◌, ◌^◌, ◌<◌, ◌≤◌, Bool, true, false, T, sym, refl, ap, ◌∙◌, subst, inl, inr, le_trans, le_of_eq, lt_of_le_of_lt, lt_irrefl, mul-le-mul_right, mul_assoc, mul_comm, mul-pos, arith, pow_pos, pow-add}
+use Rattle.std.proofs.Common.{◌≡◌, ℕ, zero, suc, ◌+◌, ◌-◌, ◌*◌, ◌/◌, ◌%◌, ◌^◌, ◌<◌, ◌≤◌, Bool, true, false, T, sym, refl, ap, ◌∙◌, subst, inl, inr, lt_irrefl, mul_assoc, mul-pos, arith, pow_pos, pow-add}
 use lib.Ieee.{binary64, div, down, fin, fits, Float, inf, nan, of_bits, to_bits, up}
 use lib.Ieee.Bits.{of_bits-to_bits}
 use lib.Ieee.Exact.{HasValue}
@@ -7,7 +7,6 @@ use lib.Ieee.Fits.{down_pos}
 use Rattle.arith.proofs.roots.Numbers.{decide}
 use Rattle.arith.proofs.roots.Pattern.Bits.{bits_val, split}
 use Rattle.arith.proofs.roots.Pattern.Special.{above_inf, minus_sign, plus_sign, unlike_itself}
-use Rattle.arith.proofs.roots.Root.Digits.{exponent_lt}
 use Rattle.arith.specs.roots.Steps.{SqrtIs, SqrtOf}
 use Rattle.arith.specs.roots.Roots.{root, sqrt}
 
@@ -53,18 +52,6 @@ small_sqrt b m e r h w s =
     (ap (λ (z : ℕ). z * 2 ^ 1074) (native.Mathlib.Nat.mul-one b) ∙ ap (λ (z : ℕ). b * z) (pow-add 2 1024 50) ∙ sym
     (mul_assoc b (2 ^ 1024) (2 ^ 50)) ∙ ap (λ (z : ℕ). z * 2 ^ 50) (sym w) ∙ mul_assoc m (2 ^ e) (2 ^ 50) ∙ ap
     (λ (z : ℕ). m * z) (sym (pow-add 2 e 50))) s
-
--- m doubles as e falls
-pub doubled : (m e : ℕ) → 1 ≤ e → 2 * m * 2 ^ (e - 1) ≡ m * 2 ^ e
-doubled m e h = ap (λ (z : ℕ). z * 2 ^ (e - 1)) (mul_comm 2 m) ∙ mul_assoc m 2 (2 ^ (e - 1)) ∙ ap (λ (z : ℕ). m * z)
-    (sym (pow-add 2 1 (e - 1)) ∙ ap (λ (i : ℕ). 2 ^ i) (let k : 1 + (e - 1) ≡ e = omega arith in k))
-
-pub large : (b m e : ℕ) → 0 < b → m < 2 ^ 53 → m * 2 ^ e ≡ b * 2 ^ 1024 → 2 ≤ e
-large b m e p h w =
-    let k = exponent_lt 1024 (53 + e)
-    (lt_of_le_of_lt (le_trans (le_of_eq (sym (native.Mathlib.Nat.one-mul (2 ^ 1024)))) (mul-le-mul_right (2 ^ 1024) p))
-    (lt_of_le_of_lt (le_of_eq (sym w)) (lib.Pow.shl_lt 53 e h))) in
-    omega arith
 
 -- ---- x itself
 pub sqrt_by_bits : (x : Float) (r : ℕ) → T (fits binary64 x) → SqrtOf (to_bits binary64 x) r
