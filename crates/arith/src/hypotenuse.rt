@@ -110,8 +110,9 @@ fn hypot_bits(a: u64, b: u64) -> u64
     hypot_searched(a.max(b), a.min(b))
 }
 
-// The hypotenuse of any two values. It is called twice, so that it is compiled apart from the quick
-// way and takes no registers there.
+// The hypotenuse of any two values, compiled apart from the quick way, so that it takes no registers
+// there.
+#[inline(never)]
 fn hypot_any(a: f64, b: f64) -> f64
     ensures { result ≡ roots.hypot binary64 a b }
 {
@@ -170,7 +171,6 @@ pub fn hypot(a: f64, b: f64) -> f64
         if let Some(r) = hypot_quick(n, nb, f64::to_bits(a) % T63, f64::to_bits(b) % T63) {
             return f64::from_bits(r);
         }
-        return hypot_any(a, b);
     }
     hypot_any(a, b)
 }

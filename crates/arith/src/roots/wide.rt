@@ -99,7 +99,7 @@ impl Parts {
         let h = c1 * c1;
         let m = c1 * c0;
         let l = c0 * c0;
-        Parts { h: h, m: m, l: l }
+        Parts { h, m, l }
     }
 
     // a * a + b * b / 4^d, or 1 less
@@ -115,7 +115,7 @@ impl Parts {
         let l = p.l + q.l + (x >> d);
         let h = p.h + q.h;
         let m = p.m + q.m;
-        Parts { h: h, m: m, l: l }
+        Parts { h, m, l }
     }
 
     // m * 2^54

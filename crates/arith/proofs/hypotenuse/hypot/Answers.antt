@@ -25,9 +25,3 @@ returns-in-Some c =
     let h = c.in-Some.ensures in
     hypot_by_bits _ _ _ (held _ c.well_formed.0.1)
     (held _ c.well_formed.1.0.1) h.p_fine h.q_fine h.hypot_is
-
-pub returns-then-n : goal.returns-then-n
-returns-then-n c = c.hypot_any.ensures
-
-pub returns : goal.returns
-returns c = c.hypot_any-2.ensures
