@@ -8,7 +8,7 @@ ghost use Rattle.arith.specs.roots.Steps.{Rounded, Scaled, Significand, Sticky};
 ghost use Rattle.arith.specs.roots.Roots as roots;
 
 use crate::bits::{INF, T52, T53, T63};
-use crate::roots::{Parts, Wide, bisect, guessed, nearest_of_three};
+use crate::roots::{Parts, SoughtRoot, Wide, guessed, nearest_of_three};
 
 // The exponent of the bits p: they stand for a multiple of 2^exponent smallest values.
 fn exponent(p: u64) -> u64
@@ -35,7 +35,7 @@ fn hypot_significand(mb: u64, ms: u64, d: u64, t: bool) -> u64
         Rounded z (from_bool t) (mb - 1) (mb + 2 ^ 52) result }
 {
     let z = Wide::sum_of_squares(2 * mb, 2 * ms, d);
-    bisect(z, t, mb - 1, mb + T52)
+    SoughtRoot { z, more: t }.bisect(mb - 1, mb + T52)
 }
 
 // The rounded half of the root of a^2 + b^2 / 4^d, from any guess g, if that decides.

@@ -6,7 +6,7 @@ ghost use Rattle.arith.specs.roots.Steps.{Significand, NearestHalf, Normalized, 
 ghost use Rattle.arith.specs.roots.Roots as roots;
 
 use crate::bits::{INF, T52, T53, T63};
-use crate::roots::{Parts, Wide, bisect, guessed, nearest_of_three};
+use crate::roots::{Parts, SoughtRoot, Wide, guessed, nearest_of_three};
 
 // m, or 2 * m at an odd exponent
 fn radicand(m: u64, e: u64) -> u64
@@ -21,7 +21,11 @@ fn sqrt_significand(m: u64) -> u64
     requires { (2 ^ 52 ≤ m) × (m + 2 ≤ 2 ^ 54) }
     ensures { NearestHalf (m * 2 ^ 54) result }
 {
-    bisect(Wide::widened(m), false, T52 - 1, T53 - 1)
+    let root = SoughtRoot {
+        z: Wide::widened(m),
+        more: false,
+    };
+    root.bisect(T52 - 1, T53 - 1)
 }
 
 // The bits of the root of m * 2^(e - 1024) smallest values, by bisection.

@@ -34,49 +34,59 @@ pub fn nearest_of_three(z: Parts, k: u64) -> Option<u64>
     None
 }
 
-// Whether the root lies above the midpoint m / 2, or at it with k odd.
-fn rounds_up_at(z: Wide, t: bool, k: u64, m: u64) -> bool
-    requires { m < 2 ^ 55 }
-    ensures { Tells (RoundsUpAt (whole z) (from_bool t) k m)
-        (RoundsDownAt (whole z) (from_bool t) k m) result }
-{
-    let s = Wide::square(m);
-    // limb by limb, which is faster than a derived order
-    if s.hi != z.hi {
-        return s.hi < z.hi;
-    }
-    if s.lo != z.lo {
-        return s.lo < z.lo;
-    }
-    t || k % 2 == 1
+// The root of z, or of a bit more than z where `more` says so.
+#[derive(Clone, Copy)]
+pub struct SoughtRoot {
+    pub z: Wide,
+    pub more: bool,
 }
 
-// Whether the root lies above the midpoint of candidate k and the next, or at it with k odd.
-fn rounds_up(z: Wide, t: bool, k: u64) -> bool
-    requires { k < 2 ^ 53 + 2 ^ 52 }
-    ensures { Tells (RoundsUp (whole z) (from_bool t) k) (RoundsDown (whole z) (from_bool t) k) result }
-{
-    if k < T53 {
-        rounds_up_at(z, t, k, 2 * k + 1)
-    } else {
-        rounds_up_at(z, t, k, 4 * k + 2 - T54)
+impl SoughtRoot {
+    // Whether it lies above the midpoint m / 2, or at it with k odd.
+    fn rounds_up_at(self, k: u64, m: u64) -> bool
+        requires { m < 2 ^ 55 }
+        ensures { Tells (RoundsUpAt (whole self.z) (from_bool self.more) k m)
+            (RoundsDownAt (whole self.z) (from_bool self.more) k m) result }
+    {
+        let s = Wide::square(m);
+        // limb by limb, which is faster than a derived order
+        if s.hi != self.z.hi {
+            return s.hi < self.z.hi;
+        }
+        if s.lo != self.z.lo {
+            return s.lo < self.z.lo;
+        }
+        self.more || k % 2 == 1
     }
-}
 
-// The candidate above lo0 and up to hi0 that the root rounds to, by bisection.
-pub fn bisect(z: Wide, t: bool, lo0: u64, hi0: u64) -> u64
-    requires { (hi0 ≤ 2 ^ 53 + 2 ^ 52) × Between (whole z) (from_bool t) lo0 hi0 }
-    ensures { Rounded (whole z) (from_bool t) lo0 hi0 result }
-{
-    let mut lo = lo0;
-    let mut hi = hi0;
-    while lo + 1 < hi {
-        let m = lo + (hi - lo) / 2;
-        if rounds_up(z, t, m) {
-            lo = m;
+    // Whether it lies above the midpoint of candidate k and the next, or at it with k odd.
+    fn rounds_up(self, k: u64) -> bool
+        requires { k < 2 ^ 53 + 2 ^ 52 }
+        ensures { Tells (RoundsUp (whole self.z) (from_bool self.more) k)
+            (RoundsDown (whole self.z) (from_bool self.more) k) result }
+    {
+        if k < T53 {
+            self.rounds_up_at(k, 2 * k + 1)
         } else {
-            hi = m;
+            self.rounds_up_at(k, 4 * k + 2 - T54)
         }
     }
-    hi
+
+    // The candidate above lo0 and up to hi0 that it rounds to, by bisection.
+    pub fn bisect(self, lo0: u64, hi0: u64) -> u64
+        requires { (hi0 ≤ 2 ^ 53 + 2 ^ 52) × Between (whole self.z) (from_bool self.more) lo0 hi0 }
+        ensures { Rounded (whole self.z) (from_bool self.more) lo0 hi0 result }
+    {
+        let mut lo = lo0;
+        let mut hi = hi0;
+        while lo + 1 < hi {
+            let m = lo + (hi - lo) / 2;
+            if self.rounds_up(m) {
+                lo = m;
+            } else {
+                hi = m;
+            }
+        }
+        hi
+    }
 }

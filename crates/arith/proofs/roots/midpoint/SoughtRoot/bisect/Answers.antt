@@ -1,7 +1,7 @@
--- `arith::roots::midpoint::bisect`. The invariant: the root lies between lo and hi, which lie within the two ends.
+-- `arith::roots::midpoint::SoughtRoot::bisect`. The invariant: the root lies between lo and hi, which lie within the two ends.
 use Rattle.std.proofs.Common.{◌≡◌, ℕ, ◌+◌, ◌-◌, ◌<◌, ◌≤◌, subst, arith, rules}
 use Rattle.arith.specs.roots.Steps.{RoundsUp}
-use Rattle.arith.proofs.roots.midpoint.bisect.Goals as goal
+use Rattle.arith.proofs.roots.midpoint.SoughtRoot.bisect.Goals as goal
 
 last : (z t lo hi : ℕ) → lo < hi → hi ≤ lo + 1 → RoundsUp z t lo → RoundsUp z t (hi - 1)
 last z t lo hi h g u = let e : lo ≡ hi - 1 = omega arith in subst (λ (x : ℕ). RoundsUp z t x) e u
