@@ -116,31 +116,13 @@ fn hypot_bits(a: u64, b: u64) -> u64
 fn hypot_any(a: f64, b: f64) -> f64
     ensures { result ≡ roots.hypot binary64 a b }
 {
-    if a == a {
-        let ua = f64::to_bits(a) % T63;
-        if b == b {
-            let ub = f64::to_bits(b) % T63;
-            if ua < INF {
-                if ub < INF {
-                    return f64::from_bits(hypot_bits(ua, ub));
-                }
-                return f64::from_bits(INF);
-            }
-            return f64::from_bits(INF);
-        }
-        if ua < INF {
-            return 0.0 / 0.0;
-        }
-        return f64::from_bits(INF);
+    if a.is_infinite() || b.is_infinite() {
+        return f64::INFINITY;
     }
-    if b == b {
-        let ub = f64::to_bits(b) % T63;
-        if ub < INF {
-            return 0.0 / 0.0;
-        }
-        return f64::from_bits(INF);
+    if a.is_nan() || b.is_nan() {
+        return f64::NAN;
     }
-    0.0 / 0.0
+    f64::from_bits(hypot_bits(f64::to_bits(a) % T63, f64::to_bits(b) % T63))
 }
 
 // The bits of the hypotenuse of two values of middling size, or of one and next to nothing, if the
@@ -166,7 +148,7 @@ pub fn hypot(a: f64, b: f64) -> f64
     ensures { result ≡ roots.hypot binary64 a b }
 {
     let n = a * a + b * b;
-    if n == n {
+    if !n.is_nan() {
         let nb = f64::to_bits(n) % T63;
         if let Some(r) = hypot_quick(n, nb, f64::to_bits(a) % T63, f64::to_bits(b) % T63) {
             return f64::from_bits(r);

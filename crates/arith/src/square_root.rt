@@ -64,27 +64,27 @@ fn sqrt_subnormal(b: u64) -> u64
 pub fn sqrt(x: f64) -> f64
     ensures { result ≡ roots.sqrt binary64 x }
 {
-    if x == x {
-        let b = f64::to_bits(x);
-        if b < INF {
-            if b >= T52 {
-                if let Some(r) = sqrt_tested(x, b) {
-                    return f64::from_bits(r);
-                }
-                return f64::from_bits(sqrt_searched(b % T52 + T52, b / T52 + 1023));
-            }
-            if b > 0 {
-                return f64::from_bits(sqrt_subnormal(b));
-            }
-            return x;
-        }
-        if b == INF {
-            return x;
-        }
-        if b == T63 {
-            return x;
-        }
-        return 0.0 / 0.0;
+    if x.is_nan() {
+        return f64::NAN;
     }
-    0.0 / 0.0
+    let b = f64::to_bits(x);
+    if b < INF {
+        if b >= T52 {
+            if let Some(r) = sqrt_tested(x, b) {
+                return f64::from_bits(r);
+            }
+            return f64::from_bits(sqrt_searched(b % T52 + T52, b / T52 + 1023));
+        }
+        if b > 0 {
+            return f64::from_bits(sqrt_subnormal(b));
+        }
+        return x;
+    }
+    if b == INF {
+        return x;
+    }
+    if b == T63 {
+        return x;
+    }
+    f64::NAN
 }

@@ -23,9 +23,9 @@ pub fn guessed(n: f64, half: u64) -> u64
     ensures { Significand result }
 {
     let g = guess(n, half);
-    if g == g {
-        f64::to_bits(g) % T52 + T52
-    } else {
+    if g.is_nan() {
         T52
+    } else {
+        f64::to_bits(g) % T52 + T52
     }
 }

@@ -1,12 +1,12 @@
 -- What `sqrt` of a value is, by its bits: normal, subnormal, zero, negative, infinite, NaN.
 use Rattle.std.proofs.Common.{◌≡◌, ℕ, zero, suc, ◌+◌, ◌-◌, ◌*◌, ◌/◌, ◌%◌, ◌^◌, ◌<◌, ◌≤◌, Bool, true, false, T, sym, refl, ap, ◌∙◌, subst, inl, inr, lt_irrefl, mul_assoc, mul-pos, arith, pow_pos, pow-add}
-use lib.Ieee.{binary64, div, down, fin, fits, Float, inf, nan, of_bits, to_bits, up}
+use lib.Ieee.{binary64, down, fin, fits, Float, inf, is_nan, nan, of_bits, to_bits, up}
 use lib.Ieee.Bits.{of_bits-to_bits}
 use lib.Ieee.Exact.{HasValue}
 use lib.Ieee.Fits.{down_pos}
 use Rattle.arith.proofs.roots.Numbers.{decide}
 use Rattle.arith.proofs.roots.Pattern.Bits.{bits_val, split}
-use Rattle.arith.proofs.roots.Pattern.Special.{above_inf, minus_sign, plus_sign, unlike_itself}
+use Rattle.arith.proofs.roots.Pattern.Special.{above_inf, minus_sign, plus_sign, is_nan_lem}
 use Rattle.arith.specs.roots.Steps.{SqrtIs, SqrtOf}
 use Rattle.arith.specs.roots.Roots.{root, sqrt}
 
@@ -107,17 +107,14 @@ sqrt_none b t h n = elim (decide (b % 2 ^ 63) (2047 * 2 ^ 52)) [
   ]
 ]
 
-abbrev zero_zero : Float
-zero_zero = div binary64 (of_bits binary64 0) (of_bits binary64 0)
-
-pub none : zero_zero ≡ nan
-unfolding div of_bits
+pub none : of_bits binary64 0x7ff8000000000000 ≡ nan
+unfolding of_bits
 none = refl
 
 pub sqrt_no : (x : Float) → T (fits binary64 x) → to_bits binary64 x < 2 ^ 64 → 2047 * 2 ^ 52 < to_bits binary64 x
-    → (to_bits binary64 x ≡ 2 ^ 63 → ⊥) → zero_zero ≡ sqrt binary64 x
+    → (to_bits binary64 x ≡ 2 ^ 63 → ⊥) → of_bits binary64 0x7ff8000000000000 ≡ sqrt binary64 x
 sqrt_no x f t h n = none ∙ sym (sqrt_none (to_bits binary64 x) t h n) ∙ ap (λ (z : Float). sqrt binary64 z)
     (of_bits-to_bits binary64 x f)
 
-pub sqrt_of_nan : (x : Float) → lib.Ieee.eq x x ≡ false → zero_zero ≡ sqrt binary64 x
-sqrt_of_nan x h = none ∙ sym sqrt_nan ∙ ap (λ (z : Float). sqrt binary64 z) (sym (unlike_itself x h))
+pub sqrt_of_nan : (x : Float) → is_nan x ≡ true → of_bits binary64 0x7ff8000000000000 ≡ sqrt binary64 x
+sqrt_of_nan x h = none ∙ sym sqrt_nan ∙ ap (λ (z : Float). sqrt binary64 z) (sym (is_nan_lem x (subst T (sym h) tt)))
