@@ -4,9 +4,7 @@ use Rattle.arith.proofs.roots.Root.HypotCore.{operands, either_way}
 use Rattle.arith.proofs.hypotenuse.hypot_bits.Goals as goal
 
 pub hypot_searched-requires : goal.hypot_searched-requires
-hypot_searched-requires c = operands _ _ _ _ (omega arith) (omega arith) c.larger-big.ensures
-    c.smaller-small.ensures
+hypot_searched-requires c = rw (c.max.ensures, c.min.ensures) (operands _ _ (omega arith) (omega arith))
 
 pub returns : goal.returns
-returns c = either_way _ _ _ _ _ c.larger-big.ensures c.smaller-small.ensures
-    c.hypot_searched.ensures
+returns c = either_way _ _ _ (rw (← c.max.ensures, ← c.min.ensures) c.hypot_searched.ensures)

@@ -1,7 +1,7 @@
--- `arith::roots::wide::square`. The square of a number of two digits of 28 bits, each product below 2^56.
+-- `arith::roots::wide::Wide::square`. The square of a number of two digits of 28 bits, each product below 2^56.
 use Rattle.std.proofs.Common.{ℕ, ◌*◌, ◌/◌, ◌%◌, ◌^◌, ◌<◌, arith}
 use Rattle.arith.proofs.roots.Halves.{digits, product}
-use Rattle.arith.proofs.roots.wide.square.Goals as goal
+use Rattle.arith.proofs.roots.wide.Wide.square.Goals as goal
 
 hi_lt : (c : ℕ) → c < 2 ^ 55 → c / 268435456 < 2 ^ 27
 hi_lt c h = omega arith
@@ -44,4 +44,4 @@ pub returns : goal.returns
 returns c =
     let e = digits c.args.c in
     let g = product 55 55 c.requires c.requires in
-    record { value = omega arith; hi_small = omega arith; lo_small = omega arith }
+    omega arith

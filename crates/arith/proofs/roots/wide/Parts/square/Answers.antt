@@ -1,7 +1,7 @@
--- `arith::roots::wide::square_parts`. The square of a number of two digits of 28 bits, its three products as they are.
+-- `arith::roots::wide::Parts::square`. The square of a number of two digits of 28 bits, its three products as they are.
 use Rattle.std.proofs.Common.{ℕ, ◌/◌, ◌%◌, ◌^◌, ◌<◌, arith}
 use Rattle.arith.proofs.roots.Halves.{digits, product}
-use Rattle.arith.proofs.roots.wide.square_parts.Goals as goal
+use Rattle.arith.proofs.roots.wide.Parts.square.Goals as goal
 
 hi_lt : (c : ℕ) → c < 2 ^ 54 → c / 268435456 < 2 ^ 26
 hi_lt c h = omega arith
