@@ -152,7 +152,7 @@ fn runs_through(s: &[f64], x: Aabb, gap: f64) -> bool
 }
 
 // No vertex lies well inside, and no probe is deep: the gap tells, or an edge that runs through.
-fn box_apart(s: &[f64], x: Aabb, hint: usize, deep: CollisionHit) -> CollisionHit
+fn box_apart(s: &[f64], x: Aabb, hint: Option<usize>, deep: CollisionHit) -> CollisionHit
     requires { 3 ≤ count s.now }
     ensures { result ≡ box_apart s.now x deep }
 {
@@ -173,7 +173,7 @@ fn box_apart(s: &[f64], x: Aabb, hint: usize, deep: CollisionHit) -> CollisionHi
 
 // With a vertex well inside, or a probe deeper than 1e-9, the gap is not read. The hint, an edge that is likely
 // the nearest, appears in no answer.
-pub fn box_distance_near(s: &[f64], x: Aabb, hint: usize) -> CollisionHit
+pub fn box_distance_near(s: &[f64], x: Aabb, hint: Option<usize>) -> CollisionHit
     requires { 3 ≤ count s.now }
     ensures { result ≡ box_distance s.now x }
 {
@@ -195,7 +195,5 @@ pub fn box_distance(s: &[f64], x: Aabb) -> CollisionHit
     requires { 3 ≤ count s.now }
     ensures { result ≡ box_distance s.now x }
 {
-    // no edge has that number: no hint
-    let n = s.len();
-    box_distance_near(s, x, n)
+    box_distance_near(s, x, None)
 }

@@ -165,7 +165,7 @@ fn first_gap(edge: Edge, x: Aabb, sides: Sides, none: CollisionHit) -> Near
     nearest_side(edge, x, sides, g, best)
 }
 
-pub fn box_gap(s: &[f64], x: Aabb, hint: usize) -> CollisionHit
+pub fn box_gap(s: &[f64], x: Aabb, hint: Option<usize>) -> CollisionHit
     requires { 3 ≤ count s.now }
     ensures { result ≡ box_gap s.now x }
 {

@@ -35,12 +35,14 @@ pub fn likely_edge(s: &[f64], x: Aabb) -> usize
 }
 
 // The hint, if it is an edge.
-pub fn likely_edge_or(s: &[f64], x: Aabb, hint: usize) -> usize
+pub fn likely_edge_or(s: &[f64], x: Aabb, hint: Option<usize>) -> usize
     requires { 3 ≤ count s.now }
     ensures { result < count s.now }
 {
-    if hint < s.len() / 2 {
-        return hint;
+    if let Some(k) = hint {
+        if k < s.len() / 2 {
+            return k;
+        }
     }
     likely_edge(s, x)
 }
