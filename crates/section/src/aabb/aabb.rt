@@ -90,10 +90,8 @@ fn box_witness(s: &[f64], x: Aabb, witness: Witness) -> Witness
 {
     let n = s.len() / 2;
     let mut at = witness;
-    let mut k = 0;
-    while k < n {
+    for k in 0..n {
         at = witness_at(s, x, k, at);
-        k += 1;
     }
     at
 }
@@ -109,12 +107,10 @@ fn any_vertex_inside(s: &[f64], x: Aabb) -> bool
     ensures { result ≡ any (λ k. strictly_inside_aabb x (vertex_at s.now k)) (count s.now) }
 {
     let n = s.len() / 2;
-    let mut k = 0;
-    while k < n {
+    for k in 0..n {
         if vertex_inside(s, x, k) {
             return true;
         }
-        k += 1;
     }
     false
 }
@@ -130,12 +126,10 @@ fn any_edge_through(s: &[f64], x: Aabb) -> bool
     ensures { result ≡ any_through s.now x }
 {
     let n = s.len() / 2;
-    let mut k = 0;
-    while k < n {
+    for k in 0..n {
         if edge_through(s, x, k) {
             return true;
         }
-        k += 1;
     }
     false
 }

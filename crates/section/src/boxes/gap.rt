@@ -125,14 +125,11 @@ fn gap_from(s: &[f64], x: Aabb, sides: Sides, from: usize, to: usize, start: Nea
     ensures { GapFrom s.now x from to start.hit result.hit × Legs result }
 {
     let mut best = start;
-    let mut k = from;
-    while k < to {
+    for k in from..to {
         if passed_over(edge_at(s, k), x, sides, best) {
-            k += 1;
-        } else {
-            best = gap_at(s, x, sides, k, best);
-            k += 1;
+            continue;
         }
+        best = gap_at(s, x, sides, k, best);
     }
     best
 }

@@ -77,10 +77,8 @@ pub fn odd_probes(s: &[f64], at: Probes) -> Odd
         c11: false,
         c01: false,
     };
-    let mut k = 0;
-    while k < n {
+    for k in 0..n {
         odd = odd_at(s, at, reach, k, odd);
-        k += 1;
     }
     odd
 }

@@ -40,10 +40,8 @@ fn point_inside(s: &[f64], p: Vertex) -> bool
 {
     let n = s.len() / 2;
     let mut odd = false;
-    let mut k = 0;
-    while k < n {
+    for k in 0..n {
         odd = odd_step(s, p, k, odd);
-        k += 1;
     }
     odd
 }
@@ -70,12 +68,10 @@ fn on_axis(s: &[f64], z: f64) -> bool
     ensures { let l = s.now in result ≡ any (λ k. inside_axis_edge z (vertex_at l k) (end_at l k)) (count l) }
 {
     let n = s.len() / 2;
-    let mut k = 0;
-    while k < n {
+    for k in 0..n {
         if axis_step(s, z, k) {
             return true;
         }
-        k += 1;
     }
     false
 }

@@ -1,5 +1,4 @@
 -- `section::aabb::aabb::any_edge_through` meets its contract: a search, nothing found so far.
-use Prim.Native.Nat.{◌≤◌, ◌-◌}
 use mathlib.Core.Bool.{false}
 use mathlib.Core.Path.{◌≡◌}
 use Rattle.section.specs.profile.Vertices.{vertex_at, end_at, any}
@@ -7,7 +6,4 @@ use Rattle.section.specs.boxes.Boxes.{segment_through_interior}
 use Rattle.section.proofs.aabb.aabb.any_edge_through.Given as goal
 
 abbrev pub invariant-loop-k : goal.invariant-loop-k
-invariant-loop-k l = (l.k ≤ l.n) × (any (λ j. segment_through_interior l.x (vertex_at l.s j) (end_at l.s j)) l.k ≡ false)
-
-abbrev pub decreases-loop-k : goal.decreases-loop-k
-decreases-loop-k l = l.n - l.k
+invariant-loop-k l = any (λ j. segment_through_interior l.x (vertex_at l.s j) (end_at l.s j)) l.k ≡ false

@@ -1,5 +1,4 @@
 -- `section::signed::distance::on_axis` meets its contract: a search, nothing found so far.
-use Prim.Native.Nat.{◌≤◌, ◌-◌}
 use mathlib.Core.Bool.{false}
 use mathlib.Core.Path.{◌≡◌}
 use Rattle.section.specs.profile.Vertices.{vertex_at, end_at, any}
@@ -7,7 +6,4 @@ use Rattle.section.specs.points.Points.{inside_axis_edge}
 use Rattle.section.proofs.signed.distance.on_axis.Given as goal
 
 abbrev pub invariant-loop-k : goal.invariant-loop-k
-invariant-loop-k l = (l.k ≤ l.n) × (any (λ j. inside_axis_edge l.z (vertex_at l.s j) (end_at l.s j)) l.k ≡ false)
-
-abbrev pub decreases-loop-k : goal.decreases-loop-k
-decreases-loop-k l = l.n - l.k
+invariant-loop-k l = any (λ j. inside_axis_edge l.z (vertex_at l.s j) (end_at l.s j)) l.k ≡ false
