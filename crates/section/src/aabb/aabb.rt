@@ -8,7 +8,7 @@ ghost use Rattle.section.specs.boxes.Steps.{any_through, box_apart};
 
 use crate::boxes::box_gap;
 use crate::probes::{Probes, deeper_probe, none_inside, odd_probes};
-use crate::profile::{Aabb, CollisionHit, Vertex, Witness, end_at, nearer_of, on, vertex_at};
+use crate::profile::{Aabb, CollisionHit, Vertex, Witness, any_edge, nearer_of, on, vertex_at};
 use crate::segments::{INTERIOR, clip_segment, lerp};
 use crate::signed::result_of;
 
@@ -96,42 +96,16 @@ fn box_witness(s: &[f64], x: Aabb, witness: Witness) -> Witness
     at
 }
 
-fn vertex_inside(s: &[f64], x: Aabb, k: usize) -> bool
-    requires { k < count s.now }
-    ensures { result ≡ strictly_inside_aabb x (vertex_at s.now k) }
-{
-    strictly_inside_aabb(vertex_at(s, k), x)
-}
-
 fn any_vertex_inside(s: &[f64], x: Aabb) -> bool
     ensures { result ≡ any (λ k. strictly_inside_aabb x (vertex_at s.now k)) (count s.now) }
 {
-    let n = s.len() / 2;
-    for k in 0..n {
-        if vertex_inside(s, x, k) {
-            return true;
-        }
-    }
-    false
-}
-
-fn edge_through(s: &[f64], x: Aabb, k: usize) -> bool
-    requires { k < count s.now }
-    ensures { result ≡ segment_through_interior x (vertex_at s.now k) (end_at s.now k) }
-{
-    segment_through_interior(vertex_at(s, k), end_at(s, k), x)
+    any_edge(s, |a, _| strictly_inside_aabb(a, x))
 }
 
 fn any_edge_through(s: &[f64], x: Aabb) -> bool
     ensures { result ≡ any_through s.now x }
 {
-    let n = s.len() / 2;
-    for k in 0..n {
-        if edge_through(s, x, k) {
-            return true;
-        }
-    }
-    false
+    any_edge(s, |a, b| segment_through_interior(a, b, x))
 }
 
 // Where the gap is above 0 no edge is clipped.
