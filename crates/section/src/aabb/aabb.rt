@@ -28,15 +28,12 @@ fn middle_of(a: Vertex, b: Vertex) -> Vertex
     }
 }
 
+#[tactic(auto, unfolding(crate::specs::boxes::Boxes::segment_through_interior))]
 pub fn segment_through_interior(a: Vertex, b: Vertex, x: Aabb) -> bool
     ensures { result ≡ segment_through_interior x a b }
 {
-    let c = clip_segment(a, b, x);
-    let any = c.any;
-    let t0 = c.t0;
-    let t1 = c.t1;
-    if any {
-        return strictly_inside_aabb(middle_of(lerp(a, b, t0), lerp(a, b, t1)), x);
+    if let Some(c) = clip_segment(a, b, x) {
+        return strictly_inside_aabb(middle_of(lerp(a, b, c.t0), lerp(a, b, c.t1)), x);
     }
     false
 }

@@ -68,11 +68,8 @@ fn segment_aabb_distance(edge: Edge, x: Aabb, sides: Sides, g: Sides, best: Near
     requires { Along x sides edge g best }
     ensures { Nearest best (edge_box x edge) result }
 {
-    let c = clip_segment(edge.a, edge.b, x);
-    let any = c.any;
-    let t0 = c.t0;
-    if any {
-        return nearer_near(best, entered(edge, t0));
+    if let Some(c) = clip_segment(edge.a, edge.b, x) {
+        return nearer_near(best, entered(edge, c.t0));
     }
     nearest_side(edge, x, sides, g, best)
 }
@@ -153,11 +150,8 @@ fn first_gap(edge: Edge, x: Aabb, sides: Sides, none: CollisionHit) -> Near
 {
     let g = ranges_of(edge.a, edge.b);
     let best = legless(none);
-    let c = clip_segment(edge.a, edge.b, x);
-    let any = c.any;
-    let t0 = c.t0;
-    if any {
-        return nearer_near(best, entered(edge, t0));
+    if let Some(c) = clip_segment(edge.a, edge.b, x) {
+        return nearer_near(best, entered(edge, c.t0));
     }
     nearest_side(edge, x, sides, g, best)
 }

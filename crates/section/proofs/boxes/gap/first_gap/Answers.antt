@@ -9,10 +9,10 @@ use Rattle.section.proofs.boxes.gap.first_gap.Goals as goal
 pub nearer_near-requires : goal.nearer_near-requires
 nearer_near-requires c = (c.legless-best.ensures.1, c.entered.ensures.1)
 
-pub returns-then-any : goal.returns-then-any
+pub returns-in-Some : goal.returns-in-Some
 unfolding edge_box
-returns-then-any c = (
-  rw (← c.clip_segment-c.ensures, c.if-any.true)
+returns-in-Some c = (
+  rw (← c.clip_segment.ensures, c.in-Some.is)
       (rw (c.legless-best.ensures.0, c.entered.ensures.0) at c.nearer_near.ensures.hit),
   c.nearer_near.ensures.legs,
 )
@@ -37,7 +37,7 @@ nearest_side-requires c = (
 pub returns : goal.returns
 unfolding edge_box
 returns c = (
-  rw (← c.clip_segment-c.ensures, c.if-any.false)
+  rw (← c.clip_segment.ensures, c.in_default.is)
       (rw c.legless-best.ensures.0 at c.nearest_side.ensures.0
       ∙ nearest_from _ (λ k. segments_held _ _ _) _ _ c.well_formed.1.1.1.0.1.1.0.1 4),
   c.nearest_side.ensures.1,
