@@ -68,11 +68,8 @@ fn segment_aabb_distance(edge: Edge, x: Aabb, sides: Sides, g: Sides, best: Near
     requires { Along x sides edge g best }
     ensures { Nearest best (edge_box x edge) result }
 {
-    let c = clip_segment(edge.a, edge.b, x);
-    let any = c.any;
-    let t0 = c.t0;
-    if any {
-        return nearer_near(best, entered(edge, t0));
+    if let Some(c) = clip_segment(edge.a, edge.b, x) {
+        return nearer_near(best, entered(edge, c.t0));
     }
     nearest_side(edge, x, sides, g, best)
 }
@@ -125,14 +122,11 @@ fn gap_from(s: &[f64], x: Aabb, sides: Sides, from: usize, to: usize, start: Nea
     ensures { GapFrom s.now x from to start.hit result.hit × Legs result }
 {
     let mut best = start;
-    let mut k = from;
-    while k < to {
+    for k in from..to {
         if passed_over(edge_at(s, k), x, sides, best) {
-            k += 1;
-        } else {
-            best = gap_at(s, x, sides, k, best);
-            k += 1;
+            continue;
         }
+        best = gap_at(s, x, sides, k, best);
     }
     best
 }
@@ -156,16 +150,13 @@ fn first_gap(edge: Edge, x: Aabb, sides: Sides, none: CollisionHit) -> Near
 {
     let g = ranges_of(edge.a, edge.b);
     let best = legless(none);
-    let c = clip_segment(edge.a, edge.b, x);
-    let any = c.any;
-    let t0 = c.t0;
-    if any {
-        return nearer_near(best, entered(edge, t0));
+    if let Some(c) = clip_segment(edge.a, edge.b, x) {
+        return nearer_near(best, entered(edge, c.t0));
     }
     nearest_side(edge, x, sides, g, best)
 }
 
-pub fn box_gap(s: &[f64], x: Aabb, hint: usize) -> CollisionHit
+pub fn box_gap(s: &[f64], x: Aabb, hint: Option<usize>) -> CollisionHit
     requires { 3 ≤ count s.now }
     ensures { result ≡ box_gap s.now x }
 {

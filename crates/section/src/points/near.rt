@@ -62,10 +62,8 @@ fn surface_from(s: &[f64], p: Vertex, from: usize, to: usize, start: Near) -> Ne
     let z = p.z;
     let r = p.r;
     let mut best = start;
-    let mut k = from;
-    while k < to {
+    for k in from..to {
         best = surface_step(s, z, r, k, best);
-        k += 1;
     }
     best
 }
@@ -76,11 +74,9 @@ fn surface_few(s: &[f64], p: Vertex, none: CollisionHit) -> CollisionHit
 {
     let n = s.len() / 2;
     let mut best = legless(none);
-    let mut k = 0;
-    while k < n {
+    for k in 0..n {
         let edge = edge_at(s, k);
         best = surface_edge(p, edge, edge_is_surface(edge.a, edge.b), best);
-        k += 1;
     }
     best.hit
 }

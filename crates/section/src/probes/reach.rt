@@ -4,6 +4,7 @@ ghost use Rattle.std.specs.Prelude.{◌≡◌, true};
 ghost use Rattle.section.specs.probes.Radii.{Reaches, Spans, Unparted};
 
 use super::shapes::{Probes, Reach};
+use crate::profile::Vertex;
 
 fn between(lo: f64, x: f64, hi: f64) -> bool
     ensures { result ≡ true → Spans lo x hi }
@@ -11,7 +12,7 @@ fn between(lo: f64, x: f64, hi: f64) -> bool
     lo <= x && x <= hi
 }
 
-pub fn reach_of(at: Probes) -> Reach
+pub fn reach_of(at: Probes<Vertex>) -> Reach
     ensures { Reaches at result }
 {
     let lo = at.c00.r;

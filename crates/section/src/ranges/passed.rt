@@ -1,6 +1,6 @@
 // What lets an edge be passed over: how far it lies from the body along one axis, and that no clip is left.
-ghost use Rattle.std.specs.Prelude.{◌≡◌, true};
-ghost use Rattle.section.specs.segments.Clip.{clip, outside};
+ghost use Rattle.std.specs.Prelude.{◌≡◌, true, None};
+ghost use Rattle.section.specs.segments.Clip.{clip};
 ghost use Rattle.section.specs.ranges.Ranges.{range, range_of, far_apart, gap_between, side_misses, misses_along};
 ghost use Rattle.section.specs.ranges.Hull.{FarOff};
 
@@ -85,7 +85,7 @@ pub fn misses_along(a: f64, b: f64, lo: f64, hi: f64) -> bool
 
 // One side of the box alone leaves nothing of the segment from a to b.
 pub fn misses_box(a: Vertex, b: Vertex, x: Aabb) -> bool
-    ensures { result ≡ true → clip x a b ≡ outside }
+    ensures { result ≡ true → clip x a b ≡ None }
 {
     if misses_along(a.z, b.z, x.z0, x.z1) {
         return true;

@@ -15,9 +15,3 @@ returns-then-hopeless c =
           (c.hopeless.ensures c.if-hopeless.true)));
       legs = c.requires.1;
     }
-
-pub seg_seg_point_on_first-requires : goal.seg_seg_point_on_first-requires
-seg_seg_point_on_first-requires c = c.requires.1
-
-pub returns : goal.returns
-returns c = c.seg_seg_point_on_first.ensures

@@ -5,13 +5,6 @@ use Rattle.section.proofs.ranges.Apart.{gap_plus}
 use Rattle.section.proofs.boxes.Passed.{passed}
 use Rattle.section.proofs.boxes.gap.passed_over.Goals as goal
 
-pub passed_along_z-requires : goal.passed_along_z-requires
-passed_along_z-requires c =
-    rw (c.range_of.ensures, c.requires.0) at c.gap_between-z.ensures
-
-pub returns-then-passed_along_z : goal.returns-then-passed_along_z
-returns-then-passed_along_z c = λ t. c.passed_along_z.ensures c.if-passed_along_z.true
-
 pub hopeless-requires : goal.hopeless-requires
 hopeless-requires c = (
   rw c.gap_between-z.ensures (gap_plus _ _),
@@ -38,6 +31,3 @@ returns-then-hopeless c =
       c.range_of-2.ensures,
     ) at (c.hopeless.ensures c.if-hopeless.true))
     (c.misses_box.ensures t)
-
-pub returns : goal.returns
-returns c = λ t. absurd (true→T t)

@@ -2,7 +2,7 @@
 use lib.Ieee.{binary64}
 use lib.Ieee.Fits.{sub-fits}
 use Rattle.arith.proofs.Laws.OrderHeld.{true→T}
-use Rattle.section.proofs.segments.Legs.{new_legs, reached, still_best}
+use Rattle.section.proofs.segments.Legs.{new_legs, reached}
 use Rattle.section.proofs.segments.near.nearer_legs.Goals as goal
 
 pub returns-then-r-best : goal.returns-then-r-best
@@ -30,9 +30,3 @@ returns-then-hit-known c =
           (sub-fits binary64 c.args.p.r c.args.q.r) c.nearer_between-hit.ensures
           c.well_formed.0.1.1.0.1.1.0.1 c.if-hit-known.true);
     }
-
-pub returns : goal.returns
-returns c = record {
-  hit = still_best _ _ _ c.nearer_between-hit.ensures c.if-hit-known.false;
-  legs = c.requires;
-}
