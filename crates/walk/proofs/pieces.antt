@@ -1,3 +1,3 @@
--- Laws of the array in which pieces wait, and of what is known at their ends.
-pub mod Stored
+-- What is known at the ends of pieces, and of those that wait.
 pub mod KnownEnds
+pub mod Parts

@@ -4,7 +4,7 @@ mod pieces;
 mod shapes;
 mod waiting;
 
-pub use ends::{ends_of, next_ends};
+pub use ends::cross_at;
 pub use pieces::{measure, whole_width};
-pub use shapes::{Ends, Measured, Piece};
-pub use waiting::{push, push_halves};
+pub use shapes::{Ends, Measured, Part, Piece};
+pub use waiting::Waiting;

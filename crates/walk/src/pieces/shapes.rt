@@ -23,6 +23,13 @@ pub struct Cross {
     pub span: Span,
 }
 
+// A piece that waits, with what is known at its left end.
+#[derive(Clone, Copy)]
+pub struct Part {
+    pub piece: Piece,
+    pub left: Cross,
+}
+
 // Half width and span at a piece's two ends, and at the axis.
 #[derive(Clone, Copy)]
 pub struct Ends {

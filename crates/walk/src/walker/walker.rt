@@ -1,5 +1,5 @@
 // The walk over the pieces of a cylinder across the spindle.
-ghost use Rattle.std.specs.Prelude.{◌≡◌, true, false, ◌&&◌, ◌≤◌, max};
+ghost use Rattle.std.specs.Prelude.{◌≡◌, true, ◌&&◌, ◌≤◌};
 ghost use Rattle.arith.specs.F64.{◌≺◌};
 ghost use Rattle.section.specs.profile.Vertices.{count, hit};
 ghost use Rattle.section.specs.boxes.Boxes.{box_distance};
@@ -7,7 +7,7 @@ ghost use Rattle.walk.specs.Walk as walk;
 ghost use Rattle.walk.specs.Steps.{Walkable, WalkableWith};
 
 use crate::bands::RadialBand;
-use crate::pieces::{Measured, Piece, ends_of, measure, next_ends, push, push_halves, whole_width};
+use crate::pieces::{Ends, Measured, Part, Piece, Waiting, cross_at, measure, whole_width};
 use crate::settings::Settings;
 use crate::{CountedHit, sampled};
 use section::{Aabb, CollisionHit, box_distance, nearer_of};
@@ -64,59 +64,52 @@ fn cut_off(least: f64, best: CollisionHit, boxes: usize, most: usize) -> Counted
     }
 }
 
-// What is reported of one that ends.
-fn uncut(best: CollisionHit, boxes: usize, most: usize) -> CountedHit
-    ensures { result ≡ record { hit = best; boxes = boxes; waiting = most; cut = false } }
+// A walk with this tolerance, at most cap boxes and this number of sample intervals.
+fn walk_with(s: &[f64], b: RadialBand, tol: f64, cap: usize, intervals: usize) -> CountedHit
+    requires { Walkable s.now b tol cap intervals }
+    ensures { result ≡ walk.walked (walk.walk_all s.now b tol cap intervals) }
 {
+    let whole = whole_width(b);
+    let mut waiting = Waiting::new();
+    waiting.push(Part {
+        piece: whole,
+        left: cross_at(b, whole.z0),
+    });
+    let mut right = cross_at(b, whole.z1);
+    let middle = cross_at(b, b.zc);
+    let mut best = sampled(s, b, intervals);
+    let mut least = arith::infinity();
+    let mut boxes: usize = 0;
+    let mut most: usize = 1;
+    let mut hint = best.witness.edge;
+    while let Some(p) = waiting.pop() {
+        if boxes == cap {
+            return cut_off(least, best, boxes, most);
+        }
+        let left = p.left;
+        let ends = Ends {
+            left,
+            right,
+            middle,
+        };
+        let m = measure(s, b, p.piece, ends, hint);
+        if halved(tol, m, best, p.piece) {
+            waiting.push_halves(b, p);
+        } else {
+            right = left;
+        }
+        best = better(m, best);
+        least = arith::min(least, m.hit.distance);
+        boxes += 1;
+        most = most.max(waiting.len());
+        hint = m.hit.witness.edge;
+    }
     CountedHit {
         hit: best,
         boxes,
         waiting: most,
         cut: false,
     }
-}
-
-fn larger(a: usize, b: usize) -> usize
-    ensures { result ≡ max a b }
-{
-    if a < b { b } else { a }
-}
-
-// A walk with this tolerance, at most cap boxes and this number of sample intervals.
-fn walk_with(s: &[f64], b: RadialBand, tol: f64, cap: usize, intervals: usize) -> CountedHit
-    requires { Walkable s.now b tol cap intervals }
-    ensures { result ≡ walk.walked (walk.walk_all s.now b tol cap intervals) }
-{
-    let mut waiting = [0.0; 108];
-    let whole = whole_width(b);
-    let mut n = push(&mut waiting, 0, whole);
-    let mut lefts = [0.0; 162];
-    let mut ends = ends_of(b, whole);
-    let mut best = sampled(s, b, intervals);
-    let mut least = arith::infinity();
-    let mut boxes: usize = 0;
-    let mut most: usize = 1;
-    let mut hint = best.witness.edge;
-    while n > 0 {
-        if boxes == cap {
-            return cut_off(least, best, boxes, most);
-        }
-        let last = n - 1;
-        let at = 2 * last;
-        let z0 = waiting[at];
-        let z1 = waiting[at + 1];
-        let p = Piece { z0, z1 };
-        let m = measure(s, b, p, ends, hint);
-        let halve = halved(tol, m, best, p);
-        n = push_halves(&mut waiting, last, p, halve);
-        ends = next_ends(&mut lefts, last, b, p, ends, halve);
-        best = better(m, best);
-        least = arith::min(least, m.hit.distance);
-        boxes += 1;
-        most = larger(most, n);
-        hint = m.hit.witness.edge;
-    }
-    uncut(best, boxes, most)
 }
 
 // One box, nothing waiting, uncut.
