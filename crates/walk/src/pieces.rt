@@ -5,6 +5,6 @@ mod shapes;
 mod waiting;
 
 pub use ends::cross_at;
-pub use pieces::{measure, whole_width};
-pub use shapes::{Ends, Measured, Part, Piece};
+pub use pieces::whole_width;
+pub use shapes::{Measured, Part, Piece, Slab};
 pub use waiting::Waiting;

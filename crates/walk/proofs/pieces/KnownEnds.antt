@@ -1,34 +1,31 @@
 -- What is known at a piece's ends gives its two spans, by the cases of the definition.
 use mathlib.Core.Bool.{Bool, true, false}
-use mathlib.Core.Path.{◌≡◌, sym, ap, ◌∙◌}
+use mathlib.Core.Path.{◌≡◌, ap, ◌∙◌}
 use Rattle.arith.specs.F64.{◌≺◌, ◌≼◌}
 use Rattle.walk.specs.pieces.Pieces.{widest, narrowest}
-use Rattle.walk.specs.pieces.Steps.{ends_of}
+use Rattle.walk.specs.pieces.Steps.{cross_at}
 use Rattle.walk.specs.declared.bands.shapes.RadialBand.{RadialBand}
 use Rattle.walk.specs.declared.pieces.shapes.Piece.{Piece}
-use Rattle.walk.specs.declared.pieces.shapes.Ends.{Ends}
+use Rattle.walk.specs.declared.pieces.shapes.Cross.{Cross}
 
-module _ (b : RadialBand) (p : Piece) (ends : Ends) (e : ends ≡ ends_of b p) where
-  pub widest_left : (b.zc ≺ p.z0) ≡ true → ends.left.span ≡ widest b p
+module _ (b : RadialBand) (p : Piece) {x : Cross} where
+  pub widest_left : x ≡ cross_at b p.z0 → (b.zc ≺ p.z0) ≡ true → x.span ≡ widest b p
   unfolding widest
-  widest_left h = ap (λ (x : Ends). x.left.span) e ∙ rw h
+  widest_left e h = rw (e, h)
 
-  pub widest_right : (b.zc ≺ p.z0) ≡ false → (p.z1 ≺ b.zc) ≡ true → ends.right.span ≡ widest b p
+  pub widest_right : x ≡ cross_at b p.z1 → (b.zc ≺ p.z0) ≡ false → (p.z1 ≺ b.zc) ≡ true → x.span ≡ widest b p
   unfolding widest
-  widest_right h k = ap (λ (x : Ends). x.right.span) e ∙ rw (h, k)
+  widest_right e h k = rw (e, h, k)
 
-  pub widest_middle : (b.zc ≺ p.z0) ≡ false → (p.z1 ≺ b.zc) ≡ false → ends.middle.span ≡ widest b p
+  pub widest_middle : x ≡ cross_at b b.zc → (b.zc ≺ p.z0) ≡ false → (p.z1 ≺ b.zc) ≡ false → x.span ≡ widest b p
   unfolding widest
-  widest_middle h k = ap (λ (x : Ends). x.middle.span) e ∙ rw (h, k)
+  widest_middle e h k = rw (e, h, k)
 
-  widths : {t : Bool} → (ends.left.rho ≼ ends.right.rho) ≡ t
-      → ((ends_of b p).left.rho ≼ (ends_of b p).right.rho) ≡ t
-  widths h = sym (ap (λ (x : Ends). x.left.rho ≼ x.right.rho) e) ∙ h
-
-  pub narrowest_left : (ends.left.rho ≼ ends.right.rho) ≡ true → ends.left.span ≡ narrowest b p
+module _ (b : RadialBand) (p : Piece) {left right : Cross} (e : left ≡ cross_at b p.z0) (g : right ≡ cross_at b p.z1) where
+  pub narrowest_left : (left.rho ≼ right.rho) ≡ true → left.span ≡ narrowest b p
   unfolding narrowest
-  narrowest_left h = ap (λ (x : Ends). x.left.span) e ∙ rw (widths h)
+  narrowest_left h = let k = rw (e, g) at h in rw (e, k)
 
-  pub narrowest_right : (ends.left.rho ≼ ends.right.rho) ≡ false → ends.right.span ≡ narrowest b p
+  pub narrowest_right : (left.rho ≼ right.rho) ≡ false → right.span ≡ narrowest b p
   unfolding narrowest
-  narrowest_right h = ap (λ (x : Ends). x.right.span) e ∙ rw (widths h)
+  narrowest_right h = let k = rw (e, g) at h in rw (g, k)

@@ -1,37 +1,30 @@
 -- What the functions on pieces compute on the way, and what is known of the pieces that wait.
-use Rattle.std.specs.Prelude.{◌≤◌, List, [], ◌∷◌, ◌≡◌, Float}
-use Rattle.section.specs.profile.Vertices.{count}
+use Rattle.std.specs.Prelude.{List, [], ◌∷◌, ◌≡◌, Float}
 use Rattle.walk.specs.bands.Band.{half_width, mean, span_at}
 use Rattle.walk.specs.declared.bands.shapes.RadialBand.{RadialBand}
-use Rattle.walk.specs.pieces.Pieces.{piece, box_hit, variation}
+use Rattle.walk.specs.pieces.Pieces.{piece, whole_width, box_hit, variation}
 use Rattle.walk.specs.declared.pieces.shapes.Piece.{Piece}
 use Rattle.walk.specs.declared.pieces.shapes.Cross.{Cross}
 use Rattle.walk.specs.declared.pieces.shapes.Part.{Part}
-use Rattle.walk.specs.declared.pieces.shapes.Ends.{Ends}
 use Rattle.walk.specs.declared.pieces.shapes.Measured.{Measured}
 
 -- the distance of a piece's box, and its variation
 abbrev pub measure : List Float → RadialBand → Piece → Measured
 measure s b p = record { hit = box_hit s b p; variation = variation b p }
 
--- half width and span at z; at a piece's ends and at the axis
+-- half width and span at z
 abbrev pub cross_at : RadialBand → Float → Cross
 cross_at b z = record { rho = half_width b z; span = span_at b (half_width b z) }
-
-abbrev pub ends_of : RadialBand → Piece → Ends
-ends_of b p = record { left = cross_at b p.z0; right = cross_at b p.z1; middle = cross_at b b.zc }
-
--- what the measuring of a piece's box asks
-pub record Measurable (s : List Float) (b : RadialBand) (p : Piece) (ends : Ends) : Type 0 where
-  pub vertices : 3 ≤ count s
-  pub known : ends ≡ ends_of b p
 
 -- ---- the pieces that wait, each with what is known at its left end
 
 abbrev pub part : Piece → Cross → Part
 part p left = record { piece = p; left = left }
 
--- p's halves
+-- the whole width, and p's halves
+abbrev pub whole : RadialBand → Part
+whole b = let p = whole_width b in part p (cross_at b p.z0)
+
 abbrev pub left_half : Part → Part
 left_half p = part (piece p.piece.z0 (mean p.piece.z0 p.piece.z1)) p.left
 

@@ -2,10 +2,11 @@
 // the one below it ends.
 ghost use Rattle.std.specs.Prelude.{◌≡◌};
 ghost use Rattle.walk.specs.pieces.Pieces.{spans_of, widest, narrowest};
-ghost use Rattle.walk.specs.pieces.Steps.{cross_at, ends_of};
+ghost use Rattle.walk.specs.pieces.Steps.{cross_at};
 ghost use Rattle.walk.specs.pieces.Steps as steps;
 
-use super::shapes::{Cross, Ends, Part, Piece, Spans};
+use super::pieces::whole_width;
+use super::shapes::{Cross, Part, Piece, Slab, Spans};
 use crate::bands::{RadialBand, Span};
 
 pub fn cross_at(b: RadialBand, z: f64) -> Cross
@@ -16,43 +17,55 @@ pub fn cross_at(b: RadialBand, z: f64) -> Cross
     Cross { rho, span }
 }
 
-fn widest_of(b: RadialBand, p: Piece, ends: Ends) -> Span
-    requires { ends ≡ ends_of b p }
-    ensures { result ≡ widest b p }
-{
-    let zc = b.zc;
-    if zc < p.z0 {
-        return ends.left.span;
+impl Slab {
+    fn widest_of(self) -> Span
+        ensures { result ≡ widest self.band self.part.piece }
+    {
+        let zc = self.band.zc;
+        let part = self.part;
+        let p = part.piece;
+        if zc < p.z0 {
+            return part.left.span;
+        }
+        if p.z1 < zc {
+            return self.right.span;
+        }
+        self.middle.span
     }
-    if p.z1 < zc {
-        return ends.right.span;
-    }
-    ends.middle.span
-}
 
-fn narrowest_of(b: RadialBand, p: Piece, ends: Ends) -> Span
-    requires { ends ≡ ends_of b p }
-    ensures { result ≡ narrowest b p }
-{
-    let left = ends.left;
-    let right = ends.right;
-    if left.rho <= right.rho {
-        return left.span;
+    fn narrowest_of(self) -> Span
+        ensures { result ≡ narrowest self.band self.part.piece }
+    {
+        let left = self.part.left;
+        let right = self.right;
+        if left.rho <= right.rho {
+            return left.span;
+        }
+        right.span
     }
-    right.span
-}
 
-pub fn spans_of(b: RadialBand, p: Piece, ends: Ends) -> Spans
-    requires { ends ≡ ends_of b p }
-    ensures { result ≡ spans_of b p }
-{
-    Spans {
-        widest: widest_of(b, p, ends),
-        narrowest: narrowest_of(b, p, ends),
+    pub fn spans_of(self) -> Spans
+        ensures { result ≡ spans_of self.band self.part.piece }
+    {
+        Spans {
+            widest: self.widest_of(),
+            narrowest: self.narrowest_of(),
+        }
     }
 }
 
 impl Part {
+    // The whole width.
+    pub fn whole(b: RadialBand) -> Part
+        ensures { result ≡ steps.whole b }
+    {
+        let piece = whole_width(b);
+        Part {
+            piece,
+            left: cross_at(b, piece.z0),
+        }
+    }
+
     // The left half starts where the whole piece does.
     pub fn left_half(self) -> Part
         ensures { result ≡ steps.left_half self }

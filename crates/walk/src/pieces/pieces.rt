@@ -1,11 +1,11 @@
 // A piece of the cylinder's width: its box and its variation.
-ghost use Rattle.std.specs.Prelude.{◌≡◌};
+ghost use Rattle.std.specs.Prelude.{◌≡◌, ◌≤◌};
+ghost use Rattle.section.specs.profile.Vertices.{count};
 ghost use Rattle.walk.specs.pieces.Pieces as pieces;
 ghost use Rattle.walk.specs.pieces.Pieces.{box_of, variation_of};
-ghost use Rattle.walk.specs.pieces.Steps.{measure, Measurable};
+ghost use Rattle.walk.specs.pieces.Steps.{measure};
 
-use super::ends::spans_of;
-use super::shapes::{Ends, Measured, Piece, Spans};
+use super::shapes::{Measured, Piece, Slab, Spans};
 use crate::bands::RadialBand;
 use section::{Aabb, box_distance_near};
 
@@ -41,15 +41,17 @@ fn variation_of(spans: Spans) -> f64
     arith::max(arith::max(lower, upper), 0.0)
 }
 
-// The distance of the piece's box, and the piece's variation.
-pub fn measure(s: &[f64], b: RadialBand, p: Piece, ends: Ends, hint: usize) -> Measured
-    requires { Measurable s.now b p ends }
-    ensures { result ≡ measure s.now b p }
-{
-    let spans = spans_of(b, p, ends);
-    let hit = box_distance_near(s, box_of(p, spans), hint);
-    Measured {
-        hit,
-        variation: variation_of(spans),
+impl Slab {
+    // The distance of the piece's box, and the piece's variation.
+    pub fn measure(self, s: &[f64], hint: usize) -> Measured
+        requires { 3 ≤ count s.now }
+        ensures { result ≡ measure s.now self.band self.part.piece }
+    {
+        let spans = self.spans_of();
+        let hit = box_distance_near(s, box_of(self.part.piece, spans), hint);
+        Measured {
+            hit,
+            variation: variation_of(spans),
+        }
     }
 }

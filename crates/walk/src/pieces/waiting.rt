@@ -69,7 +69,9 @@ impl Waiting {
         requires { length self.old + 2 ≤ 54 }
         ensures { self.new ≡ right_half b p ∷ left_half p ∷ self.old }
     {
-        self.push(p.left_half());
-        self.push(p.right_half(b));
+        let left = p.left_half();
+        let right = p.right_half(b);
+        self.push(left);
+        self.push(right);
     }
 }

@@ -4,10 +4,10 @@ ghost use Rattle.arith.specs.F64.{◌≺◌};
 ghost use Rattle.section.specs.profile.Vertices.{count, hit};
 ghost use Rattle.section.specs.boxes.Boxes.{box_distance};
 ghost use Rattle.walk.specs.Walk as walk;
-ghost use Rattle.walk.specs.Steps.{Walkable, WalkableWith};
+ghost use Rattle.walk.specs.Steps.{WalkableWith};
 
 use crate::bands::RadialBand;
-use crate::pieces::{Ends, Measured, Part, Piece, Waiting, cross_at, measure, whole_width};
+use crate::pieces::{Measured, Part, Piece, Slab, Waiting, cross_at};
 use crate::settings::Settings;
 use crate::{CountedHit, sampled};
 use section::{Aabb, CollisionHit, box_distance, nearer_of};
@@ -64,39 +64,35 @@ fn cut_off(least: f64, best: CollisionHit, boxes: usize, most: usize) -> Counted
     }
 }
 
-// A walk with this tolerance, at most cap boxes and this number of sample intervals.
-fn walk_with(s: &[f64], b: RadialBand, tol: f64, cap: usize, intervals: usize) -> CountedHit
-    requires { Walkable s.now b tol cap intervals }
-    ensures { result ≡ walk.walked (walk.walk_all s.now b tol cap intervals) }
+fn walk_with(s: &[f64], b: RadialBand, t: Settings) -> CountedHit
+    requires { WalkableWith s.now b t }
+    ensures { result ≡ walk.walked (walk.walk_with s.now b t) }
 {
-    let whole = whole_width(b);
-    let mut waiting = Waiting::new();
-    waiting.push(Part {
-        piece: whole,
-        left: cross_at(b, whole.z0),
-    });
-    let mut right = cross_at(b, whole.z1);
+    let whole = Part::whole(b);
+    let mut right = cross_at(b, whole.piece.z1);
     let middle = cross_at(b, b.zc);
-    let mut best = sampled(s, b, intervals);
+    let mut waiting = Waiting::new();
+    waiting.push(whole);
+    let mut best = sampled(s, b, t.intervals as usize);
     let mut least = arith::infinity();
     let mut boxes: usize = 0;
     let mut most: usize = 1;
     let mut hint = best.witness.edge;
-    while let Some(p) = waiting.pop() {
-        if boxes == cap {
+    while let Some(part) = waiting.pop() {
+        if boxes == t.most as usize {
             return cut_off(least, best, boxes, most);
         }
-        let left = p.left;
-        let ends = Ends {
-            left,
+        let slab = Slab {
+            band: b,
+            part,
             right,
             middle,
         };
-        let m = measure(s, b, p.piece, ends, hint);
-        if halved(tol, m, best, p.piece) {
-            waiting.push_halves(b, p);
+        let m = slab.measure(s, hint);
+        if halved(t.tolerance, m, best, part.piece) {
+            waiting.push_halves(b, part);
         } else {
-            right = left;
+            right = part.left;
         }
         best = better(m, best);
         least = arith::min(least, m.hit.distance);
@@ -145,5 +141,5 @@ pub fn band_distance(s: &[f64], b: RadialBand, t: Settings) -> CountedHit
     if b.radius <= 1e-15 {
         return one_box(s, thin_box(b));
     }
-    walk_with(s, b, t.tolerance, t.most as usize, t.intervals as usize)
+    walk_with(s, b, t)
 }

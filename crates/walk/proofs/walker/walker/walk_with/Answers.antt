@@ -1,5 +1,6 @@
 -- `walk::walker::walker::walk_with`. The locals are a state of the definition's walk, from start to end.
 use native.Mathlib.Omega.{arith}
+use borrow.Author.Rules.{rules}
 use mathlib.Core.Path.{◌≡◌, refl, sym, ap, ◌∙◌}
 use lib.ListN.{length}
 use Rattle.walk.specs.pieces.Steps.{pieces}
@@ -8,43 +9,42 @@ use Rattle.walk.proofs.Loop.{begun, ended, cut_short, has_box, has_room, turned}
 use Rattle.walk.proofs.walker.walker.walk_with.Goals.{then-halved, else-halved}
 use Rattle.walk.proofs.walker.walker.walk_with.Goals as goal
 
-pub loop-p-init : goal.loop-p-init
-loop-p-init c =
-    rw (c.push.ensures, c.new-waiting.ensures)
+pub loop-part-init : goal.loop-part-init
+loop-part-init c =
+    rw (c.push.ensures, c.new-waiting.ensures, c.whole-whole.ensures)
     (record {
-      state = begun c.whole_width-whole.ensures c.sampled-best.ensures c.infinity-least.ensures;
-      known = (c.cross_at-right.ensures, c.cross_at.ensures, tt);
+      state = begun refl c.sampled-best.ensures c.infinity-least.ensures;
+      known = (rw (c.cross_at-right.ensures, c.whole-whole.ensures), refl, tt);
     })
 
-pub returns-then-boxes-cap : goal.returns-then-boxes-cap
-returns-then-boxes-cap c =
-    cut_short c.loop-p.invariant.state (ap pieces c.in-Some.ensures) c.if-boxes-cap.true c.cut_off.ensures
+pub returns-then-boxes-t : goal.returns-then-boxes-t
+returns-then-boxes-t c =
+    cut_short c.loop-part.invariant.state (ap pieces c.in-Some.ensures) c.if-boxes-t.true c.cut_off.ensures
 
-pub measure-m-requires : goal.measure-m-requires
-measure-m-requires c =
-    let k = rw c.in-Some.ensures at c.loop-p.invariant.known in
-    record { vertices = c.requires.vertices; known = rw (k.0, k.1, c.cross_at-middle.ensures) }
+pub invariant_of-slab : goal.invariant_of-slab
+invariant_of-slab c =
+    let k = rw c.in-Some.ensures at c.loop-part.invariant.known in
+    record { left_known = k.1; right_known = k.0; middle_known = c.cross_at-middle.ensures }
 
 pub push_halves-requires : goal.push_halves-requires
 push_halves-requires c =
-    let state = c.loop-p.invariant.state in
-    let left = has_box state c.if-boxes-cap.false in
+    let state = c.loop-part.invariant.state in
+    let left = has_box state c.if-boxes-t.false in
     let room = has_room state (ap pieces c.in-Some.ensures) left c.measure-m.ensures c.halved.ensures c.requires.room c.if-halved.true in
     omega (arith, pieces_length c.pop.new.self, room)
 
 pub overflow_add-boxes : goal.overflow_add-boxes
-overflow_add-boxes c =
-    omega (arith, has_box c.loop-p.invariant.state c.if-boxes-cap.false, c.ranges.cap)
+overflow_add-boxes c = let left = has_box c.loop-part.invariant.state c.if-boxes-t.false in search rules
 
-pub loop-p-smaller : goal.loop-p-smaller
-loop-p-smaller c =
-    omega (arith, has_box c.loop-p.invariant.state c.if-boxes-cap.false)
+pub loop-part-smaller : goal.loop-part-smaller
+loop-part-smaller c =
+    omega (arith, has_box c.loop-part.invariant.state c.if-boxes-t.false)
 
-pub loop-p-preserved : goal.loop-p-preserved
-loop-p-preserved c =
-    let state = c.loop-p.invariant.state in
-    let known = rw c.in-Some.ensures at c.loop-p.invariant.known in
-    let left = has_box state c.if-boxes-cap.false in
+pub loop-part-preserved : goal.loop-part-preserved
+loop-part-preserved c =
+    let state = c.loop-part.invariant.state in
+    let known = rw c.in-Some.ensures at c.loop-part.invariant.known in
+    let left = has_box state c.if-boxes-t.false in
     let count : c.len.result ≡ length (pieces c.if-halved.waiting) = c.len.ensures ∙ sym (pieces_length _) in
     rw (c.max-most.ensures, c.min-least.ensures, c.better-best.ensures)
     (elim c.if-halved.branch [
@@ -64,4 +64,4 @@ loop-p-preserved c =
     ])
 
 pub returns : goal.returns
-returns c = ended c.loop-p.invariant.state (ap pieces c.in_default.ensures)
+returns c = ended c.loop-part.invariant.state (ap pieces c.in_default.ensures)

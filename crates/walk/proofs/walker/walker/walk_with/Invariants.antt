@@ -4,13 +4,13 @@ use Rattle.walk.specs.pieces.Steps.{pieces, Known}
 use Rattle.walk.proofs.Loop.{State}
 use Rattle.walk.proofs.walker.walker.walk_with.Given as goal
 
-abbrev pub invariant-loop-p : goal.invariant-loop-p
-invariant-loop-p l =
+abbrev pub invariant-loop-part : goal.invariant-loop-part
+invariant-loop-part l =
     record {
-      state : State l.s l.b l.tol l.cap l.intervals (pieces l.waiting) l.boxes l.most l.least l.best;
+      state : State l.s l.b l.t.tolerance l.t.most l.t.intervals (pieces l.waiting) l.boxes l.most l.least l.best;
       known : Known l.b l.right l.waiting;
     }
 
-abbrev pub decreases-loop-p : goal.decreases-loop-p
-decreases-loop-p l =
-    l.cap - l.boxes
+abbrev pub decreases-loop-part : goal.decreases-loop-part
+decreases-loop-part l =
+    l.t.most - l.boxes
