@@ -9,34 +9,32 @@ use mathlib.Core.Logic.{⊎_elim}
 use mathlib.Core.Path.{◌≡◌, refl, sym, ap, ◌∙◌}
 use lib.ListN.{length}
 use lib.Ieee.{Float}
-use Rattle.arith.specs.F64.{∞}
-use Rattle.arith.specs.Num.{min}
-use Rattle.section.specs.profile.Vertices.{hit}
 use Rattle.section.specs.declared.profile.shapes.CollisionHit.{CollisionHit}
 use Rattle.walk.specs.pieces.Pieces.{whole_width, halves}
 use Rattle.walk.specs.pieces.Steps.{measure}
 use Rattle.walk.specs.declared.pieces.shapes.Piece.{Piece}
 use Rattle.walk.specs.declared.pieces.shapes.Measured.{Measured}
-use Rattle.walk.specs.Walk.{Walk, better, halved, sampled, waiting, measured}
+use Rattle.walk.specs.Walk.{Walk, halved, sampled, waiting, measured}
 use Rattle.walk.specs.Walk.{walk, walk_all, walked}
-use Rattle.walk.specs.Steps.{Room}
+use Rattle.walk.specs.Steps.{Room, count, cut_off, start, uncut}
 use Rattle.walk.specs.declared.bands.shapes.RadialBand.{RadialBand}
-use Rattle.walk.specs.declared.shapes.CountedHit.{CountedHit}
+use Rattle.walk.specs.declared.walker.shapes.SoFar.{SoFar}
 
-abbrev so_far : CollisionHit → Float → ℕ → List Piece → Walk
-so_far best least most seen = record { best = best; least = least; most = most; seen = seen; cut = false }
+-- the definition's, that has seen these pieces
+abbrev at : SoFar → List Piece → Walk
+at x seen = record { best = x.best; least = x.least; most = x.most; seen = seen; cut = false }
 
 module _ (s : List Float) (b : RadialBand) (tol : Float) (cap intervals : ℕ) where
   abbrev whole : Walk
   whole = walk_all s b tol cap intervals
 
   -- the pieces ps wait
-  pub record State (ps : List Piece) (boxes most : ℕ) (least : Float) (best : CollisionHit) : Type 0 where
+  pub record State (ps : List Piece) (x : SoFar) : Type 0 where
     pub fuel : ℕ
     pub seen : List Piece
-    pub budget : boxes + fuel ≡ cap
-    pub counted : length seen ≡ boxes
-    pub ahead : walk s b tol fuel ps (so_far best least most seen) ≡ whole
+    pub budget : x.boxes + fuel ≡ cap
+    pub counted : length seen ≡ x.boxes
+    pub ahead : walk s b tol fuel ps (at x seen) ≡ whole
 
   nothing : (fuel : ℕ) (x : Walk) → walk s b tol fuel [] x ≡ x
   unfolding walk
@@ -60,77 +58,68 @@ module _ (s : List Float) (b : RadialBand) (tol : Float) (cap intervals : ℕ) w
 
 module _ {s : List Float} {b : RadialBand} {tol : Float} {cap intervals : ℕ} where
   -- the whole width waits
-  pub begun : {p : Piece} {least : Float} {best : CollisionHit}
-      → p ≡ whole_width b → best ≡ sampled s b intervals → least ≡ ∞
-      → State s b tol cap intervals (p ∷ []) 0 1 least best
+  pub begun : {x : SoFar} {best : CollisionHit} → x ≡ start best → best ≡ sampled s b intervals
+      → State s b tol cap intervals (whole_width b ∷ []) x
   unfolding walk_all
-  begun q u i =
-      record { fuel = cap; seen = []; budget = zero-add cap; counted = refl; ahead = rw (q, u, i) }
+  begun e u =
+      rw (e, u) (record { fuel = cap; seen = []; budget = zero-add cap; counted = refl; ahead = refl })
 
-  module _ {ps : List Piece} {boxes most : ℕ} {least : Float} {best : CollisionHit}
-      (S : State s b tol cap intervals ps boxes most least best) where
-    abbrev now : Walk
-    now = so_far best least most S.seen
-
+  module _ {ps : List Piece} {x : SoFar} (S : State s b tol cap intervals ps x) where
     -- nothing waits
-    pub ended : ps ≡ []
-        → record { hit = best; boxes = boxes; waiting = most; cut = false } ≡ walked (walk_all s b tol cap intervals)
-    ended e = rw (← S.ahead, e, ← S.counted, nothing s b tol cap intervals S.fuel now)
+    pub ended : ps ≡ [] → uncut x ≡ walked (walk_all s b tol cap intervals)
+    ended e = rw (← S.ahead, e, ← S.counted, nothing s b tol cap intervals S.fuel (at x S.seen))
 
-    pub has_box : (boxes ≡ cap → ⊥) → boxes < cap
+    pub has_box : (x.boxes ≡ cap → ⊥) → x.boxes < cap
     has_box ne = ⊎_elim (λ e. absurd (ne e)) (λ l. l) (eq-or-lt_of_le (omega (arith, S.budget)))
 
     -- p is taken from before the others
     module _ {p : Piece} {others : List Piece} (taken : ps ≡ p ∷ others) where
       -- no box is left
-      pub cut_short : {r : CountedHit} → boxes ≡ cap
-          → r ≡ record { hit = hit least best.witness; boxes = boxes; waiting = most; cut = true }
-          → r ≡ walked (walk_all s b tol cap intervals)
+      pub cut_short : x.boxes ≡ cap → cut_off x ≡ walked (walk_all s b tol cap intervals)
       unfolding walk
-      cut_short e q =
+      cut_short e =
           let f : S.fuel ≡ 0 = omega (arith, S.budget) in
-          rw (q, ← S.ahead, taken, f, S.counted)
+          rw (← S.ahead, taken, f, S.counted)
 
-      module _ (left : boxes < cap) where
+      module _ (left : x.boxes < cap) where
+        abbrev rest : ℕ
+        rest = cap - suc x.boxes
+
         -- what waits next
         abbrev next : List Piece
-        next = waiting s b tol p others best
+        next = waiting s b tol p others x.best
 
-        onward : walk s b tol (cap - suc boxes) next (measured s b tol p others now) ≡ walk_all s b tol cap intervals
+        onward : walk s b tol rest next (measured s b tol p others (at x S.seen)) ≡ walk_all s b tol cap intervals
         onward =
-            let f : S.fuel ≡ suc (cap - suc boxes) = omega (arith, S.budget) in
-            step s b tol cap intervals p others S.fuel (cap - suc boxes) now taken f S.ahead
+            let f : S.fuel ≡ suc rest = omega (arith, S.budget) in
+            step s b tol cap intervals p others S.fuel rest (at x S.seen) taken f S.ahead
 
         module _ {m : Measured} (e : m ≡ measure s b p) {h : Bool}
-            (t : h ≡ halved tol m.hit m.variation best p) where
+            (t : h ≡ halved tol m.hit m.variation x.best p) where
           waits : cond h (halves p others) others ≡ next
           waits =
               ap (λ (u : Bool). cond u (halves p others) others)
-              (t ∙ ap (λ (x : Measured). halved tol x.hit x.variation best p) e)
+              (t ∙ ap (λ (m : Measured). halved tol m.hit m.variation x.best p) e)
 
           pub has_room : Room s b tol cap intervals → h ≡ true → length others + 2 ≤ 54
           has_room room on =
-              let grown = most_grows s b tol cap intervals (cap - suc boxes) next (measured s b tol p others now) in
-              let g : maxℕ most (length next) ≤ (walk_all s b tol cap intervals).most = rw onward at grown in
+              let grown = most_grows s b tol cap intervals rest next (measured s b tol p others (at x S.seen)) in
+              let g : maxℕ x.most (length next) ≤ (walk_all s b tol cap intervals).most = rw onward at grown in
               let l : length next ≡ suc (suc (length others)) = rw (← waits, on) in
               omega (arith, room)
 
-          carry : (qs : List Piece) (x : Measured)
-              → qs ≡ next → x ≡ measure s b p
-              → walk s b tol (cap - suc boxes) qs
-              (so_far (better x.hit x.variation best) (min least x.hit.distance) (maxℕ most (length qs)) (p ∷ S.seen))
-              ≡ walk_all s b tol cap intervals
-          carry qs x u v = rw (u, v) onward
+          carry : (qs : List Piece) (m' : Measured) (n : ℕ) → qs ≡ next → m' ≡ measure s b p → n ≡ length qs
+              → walk s b tol rest qs (at (count m' n x) (p ∷ S.seen)) ≡ walk_all s b tol cap intervals
+          carry qs m' n u v l = rw (l, u, v) onward
 
           -- those wait that are to
           pub turned : {qs : List Piece} {n : ℕ} → qs ≡ cond h (halves p others) others → n ≡ length qs
-              → State s b tol cap intervals qs (boxes + 1) (maxℕ most n)
-              (min least m.hit.distance) (better m.hit m.variation best)
-          turned {qs} q l =
+              → State s b tol cap intervals qs (count m n x)
+          turned {qs} {n} q l =
               record {
-                fuel = cap - suc boxes;
+                fuel = rest;
                 seen = p ∷ S.seen;
                 budget = omega arith;
                 counted = omega (arith, S.counted);
-                ahead = rw l (carry qs m (q ∙ waits) e);
+                ahead = carry qs m n (q ∙ waits) e l;
               }

@@ -1,4 +1,5 @@
 // The walk over the pieces of a cylinder across the spindle.
+mod shapes;
 mod walker;
 
 pub use walker::{band_distance, one_box};

@@ -1,6 +1,6 @@
 -- What is known at a piece's ends gives its two spans, by the cases of the definition.
-use mathlib.Core.Bool.{Bool, true, false}
-use mathlib.Core.Path.{◌≡◌, ap, ◌∙◌}
+use mathlib.Core.Bool.{true, false}
+use mathlib.Core.Path.{◌≡◌}
 use Rattle.arith.specs.F64.{◌≺◌, ◌≼◌}
 use Rattle.walk.specs.pieces.Pieces.{widest, narrowest}
 use Rattle.walk.specs.pieces.Steps.{cross_at}

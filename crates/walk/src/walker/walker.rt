@@ -1,11 +1,13 @@
 // The walk over the pieces of a cylinder across the spindle.
-ghost use Rattle.std.specs.Prelude.{◌≡◌, true, ◌&&◌, ◌≤◌};
+ghost use Rattle.std.specs.Prelude.{◌≡◌, ◌&&◌, ◌<◌, ◌≤◌};
 ghost use Rattle.arith.specs.F64.{◌≺◌};
-ghost use Rattle.section.specs.profile.Vertices.{count, hit};
+ghost use Rattle.section.specs.profile.Vertices.{count};
 ghost use Rattle.section.specs.boxes.Boxes.{box_distance};
 ghost use Rattle.walk.specs.Walk as walk;
+ghost use Rattle.walk.specs.Steps as steps;
 ghost use Rattle.walk.specs.Steps.{WalkableWith};
 
+use super::shapes::SoFar;
 use crate::bands::RadialBand;
 use crate::pieces::{Measured, Part, Piece, Slab, Waiting, cross_at};
 use crate::settings::Settings;
@@ -48,19 +50,57 @@ fn halved(tol: f64, m: Measured, best: CollisionHit, p: Piece) -> bool
     both_above(tol, m.variation, p.z1 - p.z0)
 }
 
-// What is reported of a walk that is cut: the least box distance, with the witness of the best.
-fn cut_off(least: f64, best: CollisionHit, boxes: usize, most: usize) -> CountedHit
-    ensures { result ≡ record { hit = hit least best.witness; boxes = boxes; waiting = most; cut = true } }
-{
-    let witness = best.witness;
-    CountedHit {
-        hit: CollisionHit {
-            distance: least,
-            witness,
-        },
-        boxes,
-        waiting: most,
-        cut: true,
+impl SoFar {
+    // One piece waits, and no box is measured.
+    fn start(best: CollisionHit) -> SoFar
+        ensures { result ≡ steps.start best }
+    {
+        SoFar {
+            best,
+            least: arith::infinity(),
+            boxes: 0,
+            most: 1,
+        }
+    }
+
+    // One box more, after which this many pieces wait.
+    fn count(&mut self, m: Measured, waiting: usize)
+        requires { self.old.boxes < usize.MAX }
+        ensures { self.new ≡ steps.count m waiting self.old }
+    {
+        self.best = better(m, self.best);
+        self.least = arith::min(self.least, m.hit.distance);
+        self.boxes += 1;
+        self.most = self.most.max(waiting);
+    }
+
+    // What is reported of a walk that is cut: the least box distance, with the witness of the best.
+    fn cut_off(self) -> CountedHit
+        ensures { result ≡ steps.cut_off self }
+    {
+        let best = self.best;
+        let witness = best.witness;
+        CountedHit {
+            hit: CollisionHit {
+                distance: self.least,
+                witness,
+            },
+            boxes: self.boxes,
+            waiting: self.most,
+            cut: true,
+        }
+    }
+
+    // What is reported of one that ends.
+    fn uncut(self) -> CountedHit
+        ensures { result ≡ steps.uncut self }
+    {
+        CountedHit {
+            hit: self.best,
+            boxes: self.boxes,
+            waiting: self.most,
+            cut: false,
+        }
     }
 }
 
@@ -73,14 +113,11 @@ fn walk_with(s: &[f64], b: RadialBand, t: Settings) -> CountedHit
     let middle = cross_at(b, b.zc);
     let mut waiting = Waiting::new();
     waiting.push(whole);
-    let mut best = sampled(s, b, t.intervals as usize);
-    let mut least = arith::infinity();
-    let mut boxes: usize = 0;
-    let mut most: usize = 1;
-    let mut hint = best.witness.edge;
+    let mut so_far = SoFar::start(sampled(s, b, t.intervals as usize));
+    let mut hint = so_far.best.witness.edge;
     while let Some(part) = waiting.pop() {
-        if boxes == t.most as usize {
-            return cut_off(least, best, boxes, most);
+        if so_far.boxes == t.most as usize {
+            return so_far.cut_off();
         }
         let slab = Slab {
             band: b,
@@ -89,23 +126,15 @@ fn walk_with(s: &[f64], b: RadialBand, t: Settings) -> CountedHit
             middle,
         };
         let m = slab.measure(s, hint);
-        if halved(t.tolerance, m, best, part.piece) {
+        if halved(t.tolerance, m, so_far.best, part.piece) {
             waiting.push_halves(b, part);
         } else {
             right = part.left;
         }
-        best = better(m, best);
-        least = arith::min(least, m.hit.distance);
-        boxes += 1;
-        most = most.max(waiting.len());
+        so_far.count(m, waiting.len());
         hint = m.hit.witness.edge;
     }
-    CountedHit {
-        hit: best,
-        boxes,
-        waiting: most,
-        cut: false,
-    }
+    so_far.uncut()
 }
 
 // One box, nothing waiting, uncut.

@@ -13,13 +13,14 @@ pub loop-part-init : goal.loop-part-init
 loop-part-init c =
     rw (c.push.ensures, c.new-waiting.ensures, c.whole-whole.ensures)
     (record {
-      state = begun refl c.sampled-best.ensures c.infinity-least.ensures;
+      state = begun c.start-so_far.ensures c.sampled.ensures;
       known = (rw (c.cross_at-right.ensures, c.whole-whole.ensures), refl, tt);
     })
 
-pub returns-then-boxes-t : goal.returns-then-boxes-t
-returns-then-boxes-t c =
-    cut_short c.loop-part.invariant.state (ap pieces c.in-Some.ensures) c.if-boxes-t.true c.cut_off.ensures
+pub returns-then-so_far-t : goal.returns-then-so_far-t
+returns-then-so_far-t c =
+    c.cut_off.ensures
+    ∙ cut_short c.loop-part.invariant.state (ap pieces c.in-Some.ensures) c.if-so_far-t.true
 
 pub invariant_of-slab : goal.invariant_of-slab
 invariant_of-slab c =
@@ -29,24 +30,26 @@ invariant_of-slab c =
 pub push_halves-requires : goal.push_halves-requires
 push_halves-requires c =
     let state = c.loop-part.invariant.state in
-    let left = has_box state c.if-boxes-t.false in
+    let left = has_box state c.if-so_far-t.false in
     let room = has_room state (ap pieces c.in-Some.ensures) left c.measure-m.ensures c.halved.ensures c.requires.room c.if-halved.true in
     omega (arith, pieces_length c.pop.new.self, room)
 
-pub overflow_add-boxes : goal.overflow_add-boxes
-overflow_add-boxes c = let left = has_box c.loop-part.invariant.state c.if-boxes-t.false in search rules
+pub count-requires : goal.count-requires
+count-requires c =
+    let left = has_box c.loop-part.invariant.state c.if-so_far-t.false in
+    search rules
 
 pub loop-part-smaller : goal.loop-part-smaller
 loop-part-smaller c =
-    omega (arith, has_box c.loop-part.invariant.state c.if-boxes-t.false)
+    rw c.count.ensures (omega (arith, has_box c.loop-part.invariant.state c.if-so_far-t.false))
 
 pub loop-part-preserved : goal.loop-part-preserved
 loop-part-preserved c =
     let state = c.loop-part.invariant.state in
     let known = rw c.in-Some.ensures at c.loop-part.invariant.known in
-    let left = has_box state c.if-boxes-t.false in
+    let left = has_box state c.if-so_far-t.false in
     let count : c.len.result ≡ length (pieces c.if-halved.waiting) = c.len.ensures ∙ sym (pieces_length _) in
-    rw (c.max-most.ensures, c.min-least.ensures, c.better-best.ensures)
+    rw c.count.ensures
     (elim c.if-halved.branch [
       | then-halved w ↦
           let next = w.waiting-is ∙ w.push_halves.ensures in
@@ -64,4 +67,4 @@ loop-part-preserved c =
     ])
 
 pub returns : goal.returns
-returns c = ended c.loop-part.invariant.state (ap pieces c.in_default.ensures)
+returns c = c.uncut.ensures ∙ ended c.loop-part.invariant.state (ap pieces c.in_default.ensures)

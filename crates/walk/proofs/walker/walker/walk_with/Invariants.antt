@@ -7,10 +7,10 @@ use Rattle.walk.proofs.walker.walker.walk_with.Given as goal
 abbrev pub invariant-loop-part : goal.invariant-loop-part
 invariant-loop-part l =
     record {
-      state : State l.s l.b l.t.tolerance l.t.most l.t.intervals (pieces l.waiting) l.boxes l.most l.least l.best;
+      state : State l.s l.b l.t.tolerance l.t.most l.t.intervals (pieces l.waiting) l.so_far;
       known : Known l.b l.right l.waiting;
     }
 
 abbrev pub decreases-loop-part : goal.decreases-loop-part
 decreases-loop-part l =
-    l.t.most - l.boxes
+    l.t.most - l.so_far.boxes
