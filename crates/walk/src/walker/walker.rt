@@ -104,6 +104,7 @@ impl SoFar {
     }
 }
 
+// A walk at these settings: its tolerance, its most boxes, its number of sample intervals.
 fn walk_with(s: &[f64], b: RadialBand, t: Settings) -> CountedHit
     requires { WalkableWith s.now b t }
     ensures { result ≡ walk.walked (walk.walk_with s.now b t) }
