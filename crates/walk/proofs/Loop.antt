@@ -18,7 +18,7 @@ use Rattle.walk.specs.Walk.{Walk, halved, sampled, waiting, measured}
 use Rattle.walk.specs.Walk.{walk, walk_all, walked}
 use Rattle.walk.specs.Steps.{Room, count, cut_off, start, uncut}
 use Rattle.walk.specs.declared.bands.shapes.RadialBand.{RadialBand}
-use Rattle.walk.specs.declared.walker.shapes.SoFar.{SoFar}
+use Rattle.walk.specs.declared.walker.walker.SoFar.{SoFar}
 
 -- the definition's, that has seen these pieces
 abbrev at : SoFar → List Piece → Walk

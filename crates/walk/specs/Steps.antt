@@ -7,7 +7,7 @@ use Rattle.arith.specs.F64.{∞}
 use Rattle.arith.specs.Num.{min}
 use Rattle.walk.specs.Walk.{sample_vertex, better, walk_all}
 use Rattle.walk.specs.declared.pieces.shapes.Measured.{Measured}
-use Rattle.walk.specs.declared.walker.shapes.SoFar.{SoFar}
+use Rattle.walk.specs.declared.walker.walker.SoFar.{SoFar}
 use Rattle.walk.specs.declared.shapes.CountedHit.{CountedHit}
 use Rattle.walk.specs.declared.bands.shapes.RadialBand.{RadialBand}
 use Rattle.walk.specs.declared.settings.shapes.Settings.{Settings}

@@ -1,5 +1,4 @@
 // The walk over the pieces of a cylinder across the spindle.
-mod shapes;
 mod walker;
 
 pub use walker::{band_distance, one_box};

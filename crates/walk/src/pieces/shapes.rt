@@ -1,8 +1,5 @@
 // A piece, and what is computed of it.
-ghost use Rattle.std.specs.Prelude.{◌≡◌};
-ghost use Rattle.walk.specs.pieces.Steps.{cross_at};
-
-use crate::bands::{RadialBand, Span};
+use crate::bands::Span;
 use section::CollisionHit;
 
 // A part of the cylinder's width, from z0 to z1.
@@ -31,18 +28,6 @@ pub struct Cross {
 pub struct Part {
     pub piece: Piece,
     pub left: Cross,
-}
-
-// A piece of a band, with half width and span known at both its ends and at the axis.
-#[derive(Clone, Copy)]
-pub struct Slab {
-    pub band: RadialBand,
-    pub part: Part,
-    pub right: Cross,
-    pub middle: Cross,
-    ghost left_known: { part.left ≡ cross_at band part.piece.z0 },
-    ghost right_known: { right ≡ cross_at band part.piece.z1 },
-    ghost middle_known: { middle ≡ cross_at band band.zc },
 }
 
 // The distance of a piece's box, and the piece's variation.

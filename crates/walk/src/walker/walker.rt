@@ -7,7 +7,6 @@ ghost use Rattle.walk.specs.Walk as walk;
 ghost use Rattle.walk.specs.Steps as steps;
 ghost use Rattle.walk.specs.Steps.{WalkableWith};
 
-use super::shapes::SoFar;
 use crate::bands::RadialBand;
 use crate::pieces::{Measured, Part, Piece, Slab, Waiting, cross_at};
 use crate::settings::Settings;
@@ -48,6 +47,16 @@ fn halved(tol: f64, m: Measured, best: CollisionHit, p: Piece) -> bool
         return false;
     }
     both_above(tol, m.variation, p.z1 - p.z0)
+}
+
+// What a walk has so far: the best distance with its witness, the least box distance, how many boxes were measured, and the most
+// pieces that waited at any one time.
+#[derive(Clone, Copy)]
+struct SoFar {
+    best: CollisionHit,
+    least: f64,
+    boxes: usize,
+    most: usize,
 }
 
 impl SoFar {
@@ -114,10 +123,11 @@ fn walk_with(s: &[f64], b: RadialBand, t: Settings) -> CountedHit
     let middle = cross_at(b, b.zc);
     let mut waiting = Waiting::new();
     waiting.push(whole);
+    let cap = t.most as usize;
     let mut so_far = SoFar::start(sampled(s, b, t.intervals as usize));
     let mut hint = so_far.best.witness.edge;
     while let Some(part) = waiting.pop() {
-        if so_far.boxes == t.most as usize {
+        if so_far.boxes == cap {
             return so_far.cut_off();
         }
         let slab = Slab {

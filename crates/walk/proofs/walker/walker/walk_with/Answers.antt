@@ -17,10 +17,10 @@ loop-part-init c =
       known = (rw (c.cross_at-right.ensures, c.whole-whole.ensures), refl, tt);
     })
 
-pub returns-then-so_far-t : goal.returns-then-so_far-t
-returns-then-so_far-t c =
+pub returns-then-so_far-cap : goal.returns-then-so_far-cap
+returns-then-so_far-cap c =
     c.cut_off.ensures
-    ∙ cut_short c.loop-part.invariant.state (ap pieces c.in-Some.ensures) c.if-so_far-t.true
+    ∙ cut_short c.loop-part.invariant.state (ap pieces c.in-Some.ensures) c.if-so_far-cap.true
 
 pub invariant_of-slab : goal.invariant_of-slab
 invariant_of-slab c =
@@ -30,24 +30,24 @@ invariant_of-slab c =
 pub push_halves-requires : goal.push_halves-requires
 push_halves-requires c =
     let state = c.loop-part.invariant.state in
-    let left = has_box state c.if-so_far-t.false in
+    let left = has_box state c.if-so_far-cap.false in
     let room = has_room state (ap pieces c.in-Some.ensures) left c.measure-m.ensures c.halved.ensures c.requires.room c.if-halved.true in
     omega (arith, pieces_length c.pop.new.self, room)
 
 pub count-requires : goal.count-requires
 count-requires c =
-    let left = has_box c.loop-part.invariant.state c.if-so_far-t.false in
+    let left = has_box c.loop-part.invariant.state c.if-so_far-cap.false in
     search rules
 
 pub loop-part-smaller : goal.loop-part-smaller
 loop-part-smaller c =
-    rw c.count.ensures (omega (arith, has_box c.loop-part.invariant.state c.if-so_far-t.false))
+    rw c.count.ensures (omega (arith, has_box c.loop-part.invariant.state c.if-so_far-cap.false))
 
 pub loop-part-preserved : goal.loop-part-preserved
 loop-part-preserved c =
     let state = c.loop-part.invariant.state in
     let known = rw c.in-Some.ensures at c.loop-part.invariant.known in
-    let left = has_box state c.if-so_far-t.false in
+    let left = has_box state c.if-so_far-cap.false in
     let count : c.len.result ≡ length (pieces c.if-halved.waiting) = c.len.ensures ∙ sym (pieces_length _) in
     rw c.count.ensures
     (elim c.if-halved.branch [

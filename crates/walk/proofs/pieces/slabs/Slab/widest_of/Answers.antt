@@ -1,6 +1,6 @@
--- `walk::pieces::shapes::Slab::widest_of` meets its contract.
+-- `walk::pieces::slabs::Slab::widest_of` meets its contract.
 use Rattle.walk.proofs.pieces.KnownEnds.{widest_left, widest_right, widest_middle}
-use Rattle.walk.proofs.pieces.shapes.Slab.widest_of.Goals as goal
+use Rattle.walk.proofs.pieces.slabs.Slab.widest_of.Goals as goal
 
 pub returns-then-zc-p : goal.returns-then-zc-p
 returns-then-zc-p c = widest_left _ _ c.args.self.left_known c.if-zc-p.true
