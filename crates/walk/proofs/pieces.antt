@@ -1,3 +1,2 @@
--- What is known at the ends of pieces, and of those that wait.
+-- What is known at the ends of pieces.
 pub mod KnownEnds
-pub mod Parts

@@ -1,5 +1,5 @@
 -- What the functions on pieces compute on the way, and what is known of the pieces that wait.
-use Rattle.std.specs.Prelude.{List, [], ◌∷◌, ◌≡◌, Float}
+use Rattle.std.specs.Prelude.{List, [], ◌∷◌, map, ◌≡◌, Float}
 use Rattle.walk.specs.bands.Band.{half_width, mean, span_at}
 use Rattle.walk.specs.declared.bands.shapes.RadialBand.{RadialBand}
 use Rattle.walk.specs.pieces.Pieces.{piece, whole_width, box_hit, variation}
@@ -32,8 +32,7 @@ abbrev pub right_half : RadialBand → Part → Part
 right_half b p = let m = mean p.piece.z0 p.piece.z1 in part (piece m p.piece.z1) (cross_at b m)
 
 abbrev pub pieces : List Part → List Piece
-pieces [] = []
-pieces (p ∷ ps) = p.piece ∷ pieces ps
+pieces = map (λ (p : Part). p.piece)
 
 -- right is known where the first one ends, and where each one starts the next one ends
 abbrev pub Known : RadialBand → Cross → List Part → Type 0

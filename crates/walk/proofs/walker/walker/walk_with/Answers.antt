@@ -1,10 +1,10 @@
 -- `walk::walker::walker::walk_with`. The locals are a state of the definition's walk, from start to end.
 use native.Mathlib.Omega.{arith}
-use borrow.Author.Rules.{rules}
 use mathlib.Core.Path.{◌≡◌, refl, sym, ap, ◌∙◌}
 use lib.ListN.{length}
 use Rattle.walk.specs.pieces.Steps.{pieces}
-use Rattle.walk.proofs.pieces.Parts.{pieces_length}
+use Rattle.walk.specs.declared.pieces.shapes.Part.{Part}
+use Rattle.std.proofs.lemmas.List.{length-map}
 use Rattle.walk.proofs.Loop.{begun, ended, cut_short, has_box, has_room, turned}
 use Rattle.walk.proofs.walker.walker.walk_with.Goals.{then-halved, else-halved}
 use Rattle.walk.proofs.walker.walker.walk_with.Goals as goal
@@ -22,33 +22,19 @@ returns-then-so_far-cap c =
     c.cut_off.ensures
     ∙ cut_short c.loop-part.invariant.state (ap pieces c.in-Some.ensures) c.if-so_far-cap.true
 
-pub invariant_of-slab : goal.invariant_of-slab
-invariant_of-slab c =
-    let k = rw c.in-Some.ensures at c.loop-part.invariant.known in
-    record { left_known = k.1; right_known = k.0; middle_known = c.cross_at-middle.ensures }
-
 pub push_halves-requires : goal.push_halves-requires
 push_halves-requires c =
     let state = c.loop-part.invariant.state in
     let left = has_box state c.if-so_far-cap.false in
     let room = has_room state (ap pieces c.in-Some.ensures) left c.measure-m.ensures c.halved.ensures c.requires.room c.if-halved.true in
-    omega (arith, pieces_length c.pop.new.self, room)
-
-pub count-requires : goal.count-requires
-count-requires c =
-    let left = has_box c.loop-part.invariant.state c.if-so_far-cap.false in
-    search rules
-
-pub loop-part-smaller : goal.loop-part-smaller
-loop-part-smaller c =
-    rw c.count.ensures (omega (arith, has_box c.loop-part.invariant.state c.if-so_far-cap.false))
+    omega (arith, length-map c.pop.new.self (λ (p : Part). p.piece), room)
 
 pub loop-part-preserved : goal.loop-part-preserved
 loop-part-preserved c =
     let state = c.loop-part.invariant.state in
     let known = rw c.in-Some.ensures at c.loop-part.invariant.known in
     let left = has_box state c.if-so_far-cap.false in
-    let count : c.len.result ≡ length (pieces c.if-halved.waiting) = c.len.ensures ∙ sym (pieces_length _) in
+    let count : c.len.result ≡ length (pieces c.if-halved.waiting) = c.len.ensures ∙ sym (length-map _ _) in
     rw c.count.ensures
     (elim c.if-halved.branch [
       | then-halved w ↦
