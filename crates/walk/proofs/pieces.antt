@@ -1,3 +1,2 @@
--- Laws of the array in which pieces wait, and of what is known at their ends.
-pub mod Stored
+-- What is known at the ends of pieces.
 pub mod KnownEnds

@@ -1,6 +1,6 @@
--- `walk::pieces::pieces::measure` meets its contract.
+-- `walk::pieces::slabs::Slab::measure` meets its contract.
 use Rattle.walk.specs.pieces.Pieces.{piece_box, variation}
-use Rattle.walk.proofs.pieces.pieces.measure.Goals as goal
+use Rattle.walk.proofs.pieces.slabs.Slab.measure.Goals as goal
 
 pub returns : goal.returns
 unfolding piece_box variation
