@@ -3,8 +3,8 @@
 pub mod Fold
 pub mod Each
 pub mod Steps
-pub mod Numbered
 pub mod Numbers
+pub mod Numbered
 pub mod Nearest
 pub mod Refusals
 pub mod Replies

@@ -17,8 +17,7 @@ use Rattle.store.specs.Chain.{Chain, whole, broken, chain, in_order}
 use Rattle.store.specs.Kinds.{kinds_answer}
 use Rattle.store.specs.Radii.{radii_answer}
 use Rattle.store.specs.Store.{and_then, length_answer, links_answer, vertices, numbered, section_answer, chained, store_answer}
-use Rattle.store.specs.declared.answers.StoreAnswer.{StoreAnswer}
-use Rattle.store.specs.declared.answers.StoreAnswer.TheVariants.{Accepted, Refused}
+use Rattle.store.specs.Answers.{StoreAnswer, Accepted, Refused}
 
 never : {n k : ℕ} → Refused n k ≡ Accepted → ⊥
 never e = let z : ◌≡◌ {A = ℕ} 0 1 = cc in omega arith

@@ -2,7 +2,7 @@
 use Rattle.std.specs.Prelude.{ℕ, Bool, not, ◌||◌, cond, List, eqb}
 use Rattle.store.specs.Records.{kind}
 use Rattle.store.specs.First.{first_refused}
-use Rattle.store.specs.declared.answers.StoreAnswer.{StoreAnswer}
+use Rattle.store.specs.Answers.{StoreAnswer}
 
 abbrev pub is_vertex : List ℕ → ℕ → Bool
 is_vertex b k = eqb (kind b k) 1

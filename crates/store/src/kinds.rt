@@ -1,9 +1,11 @@
 // The kinds of the chained records, and number 14.
 ghost use Rattle.std.specs.Prelude.{◌≡◌};
+ghost use Rattle.store.specs.Answers.{told};
 ghost use Rattle.store.specs.Kinds.{right_kind, kinds_answer};
 
-use super::answers::StoreAnswer;
+use super::answers::RefusedStore;
 use super::bytes::kind_of;
+use section::Refusal;
 
 fn right_kind(store: &[u8], k: u32) -> bool
     ensures { result ≡ right_kind store.now k }
@@ -16,17 +18,14 @@ fn right_kind(store: &[u8], k: u32) -> bool
 }
 
 // The first record of a wrong kind, in chain order.
-pub fn kinds_answer(store: &[u8], order: &[u32]) -> StoreAnswer
-    ensures { result ≡ kinds_answer store.now order.now }
+pub fn kinds_answer(store: &[u8], order: &[u32]) -> Result<(), RefusedStore>
+    ensures { told result ≡ kinds_answer store.now order.now }
 {
-    let mut i = 0;
-    while i < order.len() {
-        let k = order[i];
-        if right_kind(store, k) {
-            i += 1;
-        } else {
-            return StoreAnswer::Refused(14, k);
+    for k in order {
+        if !right_kind(store, *k) {
+            let refusal = Refusal::WrongKind;
+            return Err(RefusedStore { refusal, at: *k });
         }
     }
-    StoreAnswer::Accepted
+    Ok(())
 }

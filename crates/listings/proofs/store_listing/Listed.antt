@@ -9,8 +9,7 @@ use Rattle.store.specs.Store.{vertices, store_answer, chained}
 use Rattle.listings.specs.store_listing.Text.{text}
 use Rattle.listings.specs.store_listing.Listing.{refusal_line, accepted_text, listing, list_answer, text_after, StoreListed, Prints}
 use Rattle.listings.specs.store_listing.Steps.{Written}
-use Rattle.store.specs.declared.answers.StoreAnswer.{StoreAnswer}
-use Rattle.store.specs.declared.answers.StoreAnswer.TheVariants.{Accepted, Refused}
+use Rattle.store.specs.Answers.{StoreAnswer, Accepted, Refused}
 use Rattle.listings.specs.declared.store_listing.answers.ListAnswer.TheVariants.{Bytes, Refused as NotListed}
 use Rattle.listings.proofs.store_listing.Digits.{few_digits}
 use Rattle.listings.proofs.store_listing.Largest.{every_listing_fits}

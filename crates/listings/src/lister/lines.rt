@@ -1,14 +1,14 @@
 // The lines of a listing.
 ghost use mathlib.Core.List.{flat_map};
 ghost use Rattle.std.specs.Prelude.{◌+◌, ◌≤◌, length};
-ghost use Rattle.section.specs.Answers.{told};
+ghost use Rattle.section.specs.profile.Replies.{told};
 ghost use Rattle.listings.specs.store_listing.Listing.{answer_text, field_text, edge_text, hit_text, body_line, record_line};
 ghost use Rattle.listings.specs.store_listing.Listing.{section_line, refusal_line};
 ghost use Rattle.listings.specs.store_listing.Steps.{Written};
 
 use super::bodies::body_answer;
 use crate::store_listing::{put_bits, put_decimal, put_word};
-use section::{Answer, CollisionHit};
+use section::{CollisionHit, Refusal};
 use store::kind_of;
 
 // A space, and the bits of x.
@@ -41,15 +41,15 @@ fn put_hit(text: &mut [u8], at: usize, hit: CollisionHit) -> usize
     put_edge(text, c, witness.edge)
 }
 
-fn put_answer(text: &mut [u8], at: usize, answer: Answer) -> usize
+fn put_answer(text: &mut [u8], at: usize, answer: Result<CollisionHit, Refusal>) -> usize
     requires { at + length (answer_text (told answer)) ≤ length text.old }
     ensures { Written text.old at (answer_text (told answer)) text.new result }
 {
     match answer {
-        Answer::Hit(hit) => put_hit(text, at, hit),
-        Answer::Refused(number) => {
+        Ok(hit) => put_hit(text, at, hit),
+        Err(refusal) => {
             let a = put_word(text, at, b" refused ");
-            put_decimal(text, a, number as u64)
+            put_decimal(text, a, refusal.number() as u64)
         }
     }
 }

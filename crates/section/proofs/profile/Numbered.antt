@@ -1,7 +1,8 @@
--- No refusal has the number 0.
+-- No refusal has the number 0; a refusal that is handed on stays what it is.
 use Prim.Native.Nat.{ℕ}
 use native.Mathlib.Omega.{arith}
-use mathlib.Core.Path.{◌≡◌}
+use mathlib.Core.Path.{◌≡◌, ap}
+use Rattle.std.specs.Prelude.{Result, Ok, Err, IsErr, IsErrAnd}
 use Rattle.section.specs.declared.shapes.Refusal.{Refusal}
 use Rattle.section.specs.declared.shapes.Refusal.TheVariants as refusals
 use Rattle.section.specs.profile.Numbers.{refusal_number}
@@ -31,3 +32,8 @@ above_zero refusals.BadLoad e = omega arith
 above_zero refusals.SettersEdit e = omega arith
 above_zero refusals.StoreFull e = omega arith
 above_zero refusals.NoSuchRecord e = omega arith
+
+-- by `?`
+pub handed_on : {A : Type 0} {e : Refusal} (r : Result A Refusal) → IsErr r × IsErrAnd r (λ (y : Refusal). y ≡ e) → r ≡ Err e
+handed_on (Ok a) h = absurd h.1
+handed_on (Err y) h = ap Err h.1

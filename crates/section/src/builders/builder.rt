@@ -199,6 +199,6 @@ pub fn try_from_section<'a, 'b>(points: &'b [f64], space: &'a mut [f64]) -> &'a 
 pub fn try_from_polygon<'a, 'b>(points: &'b [f64], space: &'a mut [f64]) -> &'a mut [f64]
     ensures { (result.now ≡ polygon_kept points.now space.old) × (result.ref_ptr ≡ space.entry.ref_ptr) }
 {
-    let numbers = write_polygon(points, space).unwrap_or(0);
-    &mut space[..numbers]
+    let count = write_polygon(points, space).unwrap_or(0);
+    &mut space[..count]
 }

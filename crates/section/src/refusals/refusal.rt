@@ -13,7 +13,12 @@ use arith::Vec3;
 fn any_not_finite(l: &[f64]) -> bool
     ensures { result ≡ any_of refusals.not_finite l.now }
 {
-    l.iter().any(|x| !arith::is_finite(*x))
+    for x in l {
+        if !arith::is_finite(*x) {
+            return true;
+        }
+    }
+    false
 }
 
 pub fn any_beyond_limit(l: &[f64]) -> bool

@@ -1,8 +1,10 @@
 // The radii of the chained vertices, and number 6.
 ghost use Rattle.std.specs.Prelude.{◌≡◌};
+ghost use Rattle.store.specs.Answers.{told};
 ghost use Rattle.store.specs.Radii.{below_axis, radii_answer};
 
-use crate::{StoreAnswer, kind_of, number_of};
+use crate::{RefusedStore, kind_of, number_of};
+use section::Refusal;
 
 // A vertex with a radius below -1e-9.
 fn below_axis(store: &[u8], k: u32) -> bool
@@ -15,16 +17,14 @@ fn below_axis(store: &[u8], k: u32) -> bool
 }
 
 // The first such record, in chain order.
-pub fn radii_answer(store: &[u8], order: &[u32]) -> StoreAnswer
-    ensures { result ≡ radii_answer store.now order.now }
+pub fn radii_answer(store: &[u8], order: &[u32]) -> Result<(), RefusedStore>
+    ensures { told result ≡ radii_answer store.now order.now }
 {
-    let mut i = 0;
-    while i < order.len() {
-        let k = order[i];
-        if below_axis(store, k) {
-            return StoreAnswer::Refused(6, k);
+    for k in order {
+        if below_axis(store, *k) {
+            let refusal = Refusal::RadiusBelowAxis;
+            return Err(RefusedStore { refusal, at: *k });
         }
-        i += 1;
     }
-    StoreAnswer::Accepted
+    Ok(())
 }

@@ -28,10 +28,8 @@ pub fn gather(store: &[u8], order: &[u32], space: &mut [f64]) -> usize
     ensures { Gathers (store_specs.vertices store.now order.now) space.new result }
 {
     let mut n = 0;
-    let mut i = 0;
-    while i < order.len() {
-        n = add_vertex(store, order[i], space, n);
-        i += 1;
+    for k in order {
+        n = add_vertex(store, *k, space, n);
     }
     n
 }
