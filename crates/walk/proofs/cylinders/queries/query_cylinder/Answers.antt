@@ -1,8 +1,7 @@
 -- `walk::cylinders::queries::query_cylinder` meets its contract: the refusal or the hit, and demands 1 and 3 of it.
-use mathlib.Core.Path.{◌≡◌, refl}
-use lib.Result.{Err}
-use Rattle.section.proofs.profile.Numbered.{above_zero}
-use Rattle.section.proofs.profile.Replies.{answered, refused}
+use mathlib.Core.Path.{refl}
+use Rattle.section.proofs.profile.Numbered.{handed_on}
+use Rattle.section.proofs.profile.Replies.{answered, refused_answer, value_answer}
 use Rattle.walk.specs.settings.Settings.{settings_tests}
 use Rattle.walk.specs.cylinders.Cylinders.{cylinder_answer}
 use Rattle.walk.specs.cylinders.Promised.{Promised}
@@ -16,10 +15,9 @@ returns-in_err-cylinder_refusal c =
     let checked = c.in_err-cylinder_refusal.ensures in
     let t = c.args.settings in
     let f64 = is_f64 t.tolerance c.well_formed.1.1.0.1.1.0.1 in
-    let e : c.from_residual.result ≡ Err _ = c.from_residual.ensures in
-    rw e
-    (answered (Promised _ _ t) (promised _ _ t checked.f64s f64)
-    (rw (← checked.number (settings_tests t) tt c.settings_refusal.ensures) (refused _ _ (above_zero _))))
+    answered (Promised _ _ t) (promised _ _ t checked.f64s f64)
+    (rw (handed_on c.from_residual.result c.from_residual.ensures)
+    (refused_answer _ _ (checked.number (settings_tests t) tt c.settings_refusal.ensures)))
 
 pub cylinder_distance-requires : goal.cylinder_distance-requires
 cylinder_distance-requires c =
@@ -33,4 +31,4 @@ returns c =
     let t = c.args.settings in
     let f64 = is_f64 t.tolerance c.well_formed.1.1.0.1.1.0.1 in
     answered (Promised _ _ t) (promised _ _ t checked.f64s f64)
-    (rw (← checked.number (settings_tests t) tt c.settings_refusal.ensures, c.cylinder_distance.ensures))
+    (value_answer (checked.number (settings_tests t) tt c.settings_refusal.ensures) c.cylinder_distance.ensures)
