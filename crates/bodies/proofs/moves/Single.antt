@@ -126,7 +126,7 @@ module _ (s : List Float) (b : Body) (clearance : Float) (v : Travel) (e : refus
     where
       go : {r : Report} → Colliding (placed_at b v) (step_hit s b v finest) clearance (v.steps + 1) r → Judged s b clearance v r
       go (never c none) = clear c (λ i h. step_verdict i h ∙ ap value (is_false (hit i) (none i (omega (arith, h)))))
-      go (at {k} c f) =
+      go (at {j = k} c f) =
           let l : k ≤ v.steps = omega (arith, f.below) in
           collision c l (step_verdict k l ∙ ap value (is_true (hit k) f.holds))
           (λ i h. step_verdict i (omega (arith, h, l)) ∙ ap value (is_false (hit i) (f.before i h)))
