@@ -1,7 +1,9 @@
 -- 02's trying of a move: a body, a clearance, a start and an end offset, and n from 1 to 4,096 steps. The body is placed at steps
 -- 0 to n, and each placement is one query with the call's settings. Reported are the smallest distance and its first step, the
 -- first colliding step if any, and the total of the boxes measured.
-use Rattle.std.specs.Prelude.{ℕ, ◌+◌, ◌*◌, ◌≤◌, Bool, cond, Option, Some, None, List, [], ◌∷◌, ◌++◌, Float}
+use Rattle.std.specs.Prelude.{ℕ, ◌+◌, ◌*◌, ◌≤◌, cond, None, List, [], ◌∷◌, ◌++◌, Float}
+use Rattle.std.specs.Bool.{then_some}
+use Rattle.std.specs.Option.{option_or}
 use Rattle.arith.specs.F64.{◌≺◌, ∞}
 use Rattle.section.specs.profile.Refusals.{Test, ◌when◌, refusal, point_numbers}
 use Rattle.section.specs.profile.Replies.{Reply, reply}
@@ -43,11 +45,6 @@ move_tests s b clearance v t = before_placing s b clearance v t ++ placed_tests 
 abbrev pub untried : Report
 untried = record { distance = ∞; step = 0; colliding_step = None; boxes = 0 }
 
--- the first step that collides stays; step i where none did and it does
-abbrev pub first_colliding : Option ℕ → Bool → ℕ → Option ℕ
-first_colliding (Some k) hits i = Some k
-first_colliding None hits i = cond hits (Some i) None
-
 -- with step i, at which the body stands there and has this hit: a strictly smaller distance takes over, the first collision
 -- stays, the boxes add up
 abbrev pub with_step : ℕ → Body → CountedHit → Float → Report → Report
@@ -57,7 +54,7 @@ with_step i b h clearance r =
     record {
       distance = cond nearer h.hit.distance r.distance;
       step = cond nearer i r.step;
-      colliding_step = first_colliding r.colliding_step hits i;
+      colliding_step = option_or r.colliding_step (then_some hits i);
       boxes = r.boxes + h.boxes;
     }
 

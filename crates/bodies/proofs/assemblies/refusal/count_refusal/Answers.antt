@@ -7,6 +7,6 @@ pub returns-then-count-gt64 : goal.returns-then-count-gt64
 unfolding refusal
 returns-then-count-gt64 c = rw (lt-ltb 64 _ c.if-count-gt64.true)
 
-pub returns-else-count-gt64 : goal.returns-else-count-gt64
+pub returns : goal.returns
 unfolding refusal
-returns-else-count-gt64 c = rw (le-ltb 64 _ c.if-count-gt64.false)
+returns c = rw (le-ltb 64 _ c.if-count-gt64.false)

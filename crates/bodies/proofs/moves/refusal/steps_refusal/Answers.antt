@@ -11,6 +11,6 @@ pub returns-then-steps-gt4096 : goal.returns-then-steps-gt4096
 unfolding refusal
 returns-then-steps-gt4096 c = rw (le-ltb _ 1 c.if-steps-lt1.false, lt-ltb 4096 _ c.if-steps-gt4096.true)
 
-pub returns-else-steps-gt4096 : goal.returns-else-steps-gt4096
+pub returns : goal.returns
 unfolding refusal
-returns-else-steps-gt4096 c = rw (le-ltb _ 1 c.if-steps-lt1.false, le-ltb 4096 _ c.if-steps-gt4096.false)
+returns c = rw (le-ltb _ 1 c.if-steps-lt1.false, le-ltb 4096 _ c.if-steps-gt4096.false)

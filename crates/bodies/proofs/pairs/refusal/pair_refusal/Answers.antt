@@ -1,24 +1,18 @@
 -- `bodies::pairs::refusal::pair_refusal` meets its contract.
-use borrow.Author.Tests.{eq-eqb, ne_eqb}
+use Rattle.section.proofs.profile.Numbered.{above_zero, handed_on}
+use Rattle.section.proofs.profile.Refusals.Ordered.{or_else_first}
 use Rattle.bodies.proofs.pairs.refusal.pair_refusal.Goals as goal
 
-pub returns-then-of_chuck-ne0 : goal.returns-then-of_chuck-ne0
-returns-then-of_chuck-ne0 c = rw (← c.section_refusal-of_chuck.ensures, ne_eqb _ _ c.if-of_chuck-ne0.true)
+pub returns-in_err-section_refusal : goal.returns-in_err-section_refusal
+returns-in_err-section_refusal c =
+    rw (handed_on c.from_residual.result c.from_residual.ensures, ← c.in_err-section_refusal.ensures)
+    (or_else_first _ _ (above_zero _))
 
-pub returns-then-of_work-ne0 : goal.returns-then-of_work-ne0
-returns-then-of_work-ne0 c =
-    rw (
-      ← c.section_refusal-of_chuck.ensures,
-      eq-eqb _ _ c.if-of_chuck-ne0.false,
-      ← c.section_refusal-of_work.ensures,
-      ne_eqb _ _ c.if-of_work-ne0.true,
-    )
+pub returns-in_err-section_refusal-2 : goal.returns-in_err-section_refusal-2
+returns-in_err-section_refusal-2 c =
+    let r = c.from_residual-in_err-section_refusal-2 in
+    rw (handed_on r.result r.ensures, ← c.in_ok-section_refusal.ensures, ← c.in_err-section_refusal-2.ensures)
+    (or_else_first _ _ (above_zero _))
 
 pub returns : goal.returns
-returns c =
-    rw (
-      ← c.section_refusal-of_chuck.ensures,
-      eq-eqb _ _ c.if-of_chuck-ne0.false,
-      ← c.section_refusal-of_work.ensures,
-      eq-eqb _ _ c.if-of_work-ne0.false,
-    )
+returns c = rw (← c.in_ok-section_refusal.ensures, ← c.in_ok-section_refusal-2.ensures)
