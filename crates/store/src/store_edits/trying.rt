@@ -13,7 +13,7 @@ fn keep(space: &mut [u8], trial: &[u8], size: usize) -> Result<usize, Refusal>
     requires { length space.old ≡ length trial.now }
     ensures { Tried space.old trial.now size result space.new }
 {
-    space_answer(trial, size).map_err(|refused| refused.refusal)?;
+    space_answer(trial, size)?;
     put(space, 0, trial);
     Ok(size)
 }
