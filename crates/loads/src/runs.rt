@@ -34,10 +34,8 @@ pub fn put_vertices(space: &mut [u8], seed: u64, n: usize) -> u64
     ensures { Drawn space.old 40 (load_vertices seed n) space.new (state_after seed (n * 2)) result }
 {
     let mut state = seed;
-    let mut i = 0;
-    while i < n {
+    for i in 0..n {
         state = put_vertex(space, i, state);
-        i += 1;
     }
     state
 }
@@ -85,10 +83,8 @@ pub fn put_spheres(space: &mut [u8], state0: u64, n: usize) -> u64
         Drawn space.old at (load_spheres state0 n 32) space.new (state_after state0 128) result }
 {
     let mut state = state0;
-    let mut j = 0;
-    while j < 32 {
+    for j in 0..32 {
         state = put_sphere(space, n, j, state);
-        j += 1;
     }
     state
 }

@@ -85,10 +85,8 @@ pub fn put_lines(store: &[u8], s: &[f64], order: &[u32], text: &mut [u8], from: 
         Written text.old from lines text.new result }
 {
     let mut at = from;
-    let mut i = 0;
-    while i < order.len() {
-        at = put_record_line(store, s, order[i], text, at);
-        i += 1;
+    for k in order {
+        at = put_record_line(store, s, *k, text, at);
     }
     at
 }
