@@ -1,6 +1,7 @@
 -- The laws that the proofs of the store's functions share.
 pub mod Patterns
 pub mod Lists
+pub mod LowFirst
 pub mod Handed
 pub mod Filling
 pub mod Following
