@@ -17,10 +17,8 @@ fn put_digits(bytes: &[u8], text: &mut [u8]) -> usize
     ensures { Written text.old 0 (flat_map (hex 2) bytes.now) text.new result }
 {
     let mut at = 0;
-    let mut i = 0;
-    while i < bytes.len() {
-        at = put_hex(text, at, bytes[i] as u64, 2);
-        i += 1;
+    for byte in bytes {
+        at = put_hex(text, at, *byte as u64, 2);
     }
     at
 }

@@ -7,6 +7,7 @@ ghost use Rattle.loads.specs.Steps.{Drawn};
 
 use super::draws::{coordinate_bits, radius_bits, xorshift};
 use super::fields::put_record;
+use store::Kind;
 
 fn put_vertex(space: &mut [u8], i: usize, state: u64) -> u64
     requires { (i < 256) × (length space.old ≡ 20480) }
@@ -18,8 +19,8 @@ fn put_vertex(space: &mut [u8], i: usize, state: u64) -> u64
     put_record(
         space,
         40 + i * 40,
-        i as u64 + 2,
-        1,
+        i as u32 + 2,
+        Kind::Vertex,
         coordinate_bits(s),
         radius_bits(t),
         0,
@@ -34,20 +35,18 @@ pub fn put_vertices(space: &mut [u8], seed: u64, n: usize) -> u64
     ensures { Drawn space.old 40 (load_vertices seed n) space.new (state_after seed (n * 2)) result }
 {
     let mut state = seed;
-    let mut i = 0;
-    while i < n {
+    for i in 0..n {
         state = put_vertex(space, i, state);
-        i += 1;
     }
     state
 }
 
 // The last leads to 0.
-fn sphere_next(n: usize, j: usize) -> u64
+fn sphere_next(n: usize, j: usize) -> u32
     requires { (n ≤ 256) × (j < 32) }
     ensures { result ≡ sphere_next n j }
 {
-    let own = (n + j + 1) as u64;
+    let own = (n + j + 1) as u32;
     if j == 31 {
         return 0;
     }
@@ -69,7 +68,7 @@ fn put_sphere(space: &mut [u8], n: usize, j: usize, state: u64) -> u64
         space,
         at,
         sphere_next(n, j),
-        2,
+        Kind::Sphere,
         coordinate_bits(s),
         coordinate_bits(t),
         coordinate_bits(u),
@@ -85,10 +84,8 @@ pub fn put_spheres(space: &mut [u8], state0: u64, n: usize) -> u64
         Drawn space.old at (load_spheres state0 n 32) space.new (state_after state0 128) result }
 {
     let mut state = state0;
-    let mut j = 0;
-    while j < 32 {
+    for j in 0..32 {
         state = put_sphere(space, n, j, state);
-        j += 1;
     }
     state
 }

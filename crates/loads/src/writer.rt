@@ -9,6 +9,7 @@ ghost use Rattle.listings.specs.store_listing.Listing.{Prints};
 use super::fields::put_record;
 use super::runs::{put_spheres, put_vertices};
 use section::Refusal;
+use store::Kind;
 
 #[tactic(auto, unfolding(section::specs::profile::Refusals::refusal))]
 fn load_refusal(seed: u64, vertices: u64) -> Result<(), Refusal>
@@ -31,7 +32,7 @@ fn put_load(space: &mut [u8], seed: u64, n: usize) -> usize
     requires { (n ≤ 256) × (length space.old ≡ 20480) }
     ensures { Prints (load_specs.load seed n) space.old space.new result }
 {
-    put_record(space, 0, 1, 0, 0, 0, 0, 0);
+    put_record(space, 0, 1, Kind::Start, 0, 0, 0, 0);
     let state = put_vertices(space, seed, n);
     put_spheres(space, state, n);
     n * 40 + 1320

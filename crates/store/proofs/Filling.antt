@@ -1,14 +1,15 @@
 -- A lent array that is filled from its front on, or a refusal.
 use Prim.Native.Nat.{ℕ, ◌≤◌}
 use mathlib.Core.List.{List}
-use mathlib.Core.Path.{◌≡◌, sym, ◌∙◌}
+use mathlib.Core.Path.{◌≡◌, refl, sym}
 use native.Mathlib.Omega.{arith}
 use lib.ListN.{take}
 use Rattle.std.specs.Prelude.{Result, Ok, Err}
+use Rattle.std.specs.Result.{result_unwrap_or}
 use Rattle.section.specs.profile.Numbers.{refusal_number}
 use Rattle.store.specs.Answers.{StoreAnswer, Accepted, Refused}
 use Rattle.store.specs.Store.{and_then}
-use Rattle.store.specs.Steps.{Fills}
+use Rattle.store.specs.Steps.{Fills, FilledTo}
 use Rattle.store.specs.declared.answers.RefusedStore.{RefusedStore}
 
 never : {n : ℕ} {e : RefusedStore} → ◌≡◌ {A = Result ℕ RefusedStore} (Ok n) (Err e) → ⊥
@@ -34,6 +35,13 @@ module _ {A : Type 0} {a : StoreAnswer} {xs after : List A} where
         accepted = λ m e. absurd (never (sym e));
         refused = λ e same. rw (← same_refusal same) bad;
       }
+
+-- what is not refused is filled
+pub filled_by :
+    {A : Type 0} {a : StoreAnswer} {xs after : List A} (r : Result ℕ RefusedStore) → Fills a xs r after
+    → ((n k : ℕ) → a ≡ Refused n k → ⊥) → FilledTo a xs (result_unwrap_or r 0) after
+filled_by (Ok n) h fine = h.accepted n refl
+filled_by (Err e) h fine = absurd (fine _ _ (h.refused e refl))
 
 -- a refusal stands, an accepted part leaves it to the next
 module _ {A : Type 0} {a : StoreAnswer} (rest : StoreAnswer) {xs after : List A} where

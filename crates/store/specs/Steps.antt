@@ -6,11 +6,6 @@ use Rattle.store.specs.Records.{records, next}
 use Rattle.store.specs.Answers.{StoreAnswer, Accepted, Refused}
 use Rattle.store.specs.declared.answers.RefusedStore.{RefusedStore}
 
--- r is v, a number of at most k bits
-pub record Reads (k v r : ℕ) : Type 0 where
-  pub value : r ≡ v
-  pub small : r < 2 ^ k
-
 -- ---- the chain
 -- a store of 1 to 512 records, and the array for their order
 pub record ChainRoom (b order : List ℕ) : Type 0 where

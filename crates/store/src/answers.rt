@@ -17,3 +17,11 @@ impl From<Refusal> for RefusedStore {
         RefusedStore { refusal, at: 0 }
     }
 }
+
+impl From<RefusedStore> for Refusal {
+    ghost from_gives = { λ e refusal. refusal ≡ e.refusal };
+
+    fn from(refused: RefusedStore) -> Refusal {
+        refused.refusal
+    }
+}

@@ -18,4 +18,4 @@ pub use store_edits::edit_store;
 pub use bytes::{kind_of, next_of, number_of, u64_at};
 pub use chain::follow_chain;
 pub use edits::put;
-pub use kinds::kinds_answer;
+pub use kinds::{Kind, is_kind, kinds_answer};

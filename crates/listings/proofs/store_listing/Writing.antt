@@ -38,18 +38,6 @@ room_first at t u h = omega (arith, length-append t u)
 pub nothing_written : (l : List ℕ) (at : ℕ) → Written l at [] l at
 nothing_written l at = record { text = refl; end = omega arith }
 
--- a word goes in byte by byte
-pub word_more :
-    {l l' : List ℕ} {at : ℕ} (w : List ℕ) (i : ℕ) → Written l at (take i w) l' (at + i) → i < length w
-    → Written l at (take (i + 1) w) (set l' (at + i) (get_or w i 0)) (at + (i + 1))
-word_more {l} {l'} {at} w i now h =
-    rw (take_more w i 0 h) (then now (record { text = refl; end = omega arith }))
-
-pub word_all :
-    {l l' : List ℕ} {at : ℕ} (w : List ℕ) (i : ℕ) → Written l at (take i w) l' (at + i) → length w ≤ i
-    → Written l at w l' (at + i)
-word_all w i now h = rw (take_all i w h) at now
-
 -- what is written from the front on
 pub front_of_lem : (l t : List ℕ) → length t ≤ length l → sets l 0 t ≡ t ++ drop (length t) l
 front_of_lem l t h = sets-eq t l 0 (rw zero-add h) ∙ rw zero-add

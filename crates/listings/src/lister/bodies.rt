@@ -6,7 +6,7 @@ ghost use Rattle.listings.specs.store_listing.Listing.{sphere_at, box_at, body_a
 
 use arith::Vec3;
 use section::{CollisionHit, Refusal, Sphere};
-use store::{kind_of, number_of};
+use store::{Kind, is_kind, number_of};
 
 fn sphere_answer(store: &[u8], s: &[f64], k: u32) -> Result<CollisionHit, Refusal>
     ensures { told result ≡ sphere_answer s.now (sphere_at store.now k) }
@@ -34,7 +34,7 @@ fn box_answer(store: &[u8], s: &[f64], k: u32) -> Result<CollisionHit, Refusal>
 pub fn body_answer(store: &[u8], s: &[f64], k: u32) -> Result<CollisionHit, Refusal>
     ensures { told result ≡ body_answer store.now s.now k }
 {
-    if kind_of(store, k) == 2 {
+    if is_kind(store, k, Kind::Sphere) {
         return sphere_answer(store, s, k);
     }
     box_answer(store, s, k)

@@ -9,7 +9,7 @@ ghost use Rattle.listings.specs.store_listing.Steps.{Written};
 use super::bodies::body_answer;
 use crate::store_listing::{put_bits, put_decimal, put_word};
 use section::{CollisionHit, Refusal};
-use store::kind_of;
+use store::{Kind, is_kind};
 
 // A space, and the bits of x.
 fn put_field(text: &mut [u8], at: usize, x: f64) -> usize
@@ -69,11 +69,7 @@ fn put_record_line(store: &[u8], s: &[f64], k: u32, text: &mut [u8], at: usize) 
     requires { at + length (record_line store.now s.now k) ≤ length text.old }
     ensures { Written text.old at (record_line store.now s.now k) text.new result }
 {
-    let kind = kind_of(store, k);
-    if kind == 2 {
-        return put_body_line(store, s, k, text, at);
-    }
-    if kind == 3 {
+    if is_kind(store, k, Kind::Sphere) || is_kind(store, k, Kind::Box) {
         return put_body_line(store, s, k, text, at);
     }
     at
@@ -85,10 +81,8 @@ pub fn put_lines(store: &[u8], s: &[f64], order: &[u32], text: &mut [u8], from: 
         Written text.old from lines text.new result }
 {
     let mut at = from;
-    let mut i = 0;
-    while i < order.len() {
-        at = put_record_line(store, s, order[i], text, at);
-        i += 1;
+    for k in order {
+        at = put_record_line(store, s, *k, text, at);
     }
     at
 }

@@ -3,7 +3,7 @@ use Prim.Native.Nat.{ℕ, ◌+◌, ◌-◌, ◌*◌, ◌≤◌}
 use native.Mathlib.Nat.{zero-add}
 use native.Mathlib.Omega.{arith}
 use mathlib.Core.List.{List, ◌++◌, append_assoc, append-nil}
-use mathlib.Core.Path.{◌≡◌, refl, sym, ap, subst, ◌∙◌}
+use mathlib.Core.Path.{◌≡◌, refl, sym, ap, ap₂, subst, ◌∙◌}
 use lib.ListN.{length, take, drop}
 use borrow.Rule.Slice.PartMut.{put_mid, Post-is}
 use lib.Seq.{sets, sets-eq, drop-length}
@@ -60,11 +60,11 @@ module _ {s t₀ t₁ after : List ℕ} {n : ℕ} {a : Result ℕ Refusal} (firs
       subst (λ (t : List ℕ). Tried s t n a after) (w.bytes ∙ ap (λ (l : List ℕ). sets l p bytes) (copied first size)) tried
 
   pub added_tried :
-      (bytes : List ℕ) (m t : ℕ) {u t₂ t₃ : List ℕ} → u ≡ ending bytes → Put t₁ (m * 40) u t₂
-      → Put t₂ (t * 40) (next_bytes m) t₃ → Tried s t₃ n a after → Tried s (appended s m t bytes) n a after
-  added_tried bytes m t {u} {t₂} {t₃} new w₂ w₃ tried =
+      (bytes : List ℕ) (m t : ℕ) {u t₂ link t₃ : List ℕ} → u ≡ ending bytes → Put t₁ (m * 40) u t₂ → link ≡ next_bytes m
+      → Put t₂ (t * 40) link t₃ → Tried s t₃ n a after → Tried s (appended s m t bytes) n a after
+  added_tried bytes m t {u} {t₂} {link} {t₃} new w₂ linked w₃ tried =
       subst (λ (l : List ℕ). Tried s l n a after)
-      (w₃.bytes ∙ ap (λ (l : List ℕ). sets l (t * 40) (next_bytes m)) record_put) tried
+      (w₃.bytes ∙ ap₂ (λ (l word : List ℕ). sets l (t * 40) word) record_put linked) tried
     where
       record_put : t₂ ≡ sets s (m * 40) (ending bytes)
       record_put =

@@ -4,7 +4,7 @@ ghost use Rattle.store.specs.edits.Edits.{not_allowed};
 ghost use Rattle.store.specs.declared.edits.shapes.Place.TheVariants.{Record, Add};
 
 use super::shapes::Role;
-use crate::{kind_of, next_of};
+use crate::{Kind, is_kind, next_of};
 
 pub fn replace_not_allowed(store: &[u8], role: Role, k: u32, bytes: &[u8]) -> bool
     ensures { result ≡ not_allowed store.now role (Record k) bytes.now }
@@ -17,11 +17,11 @@ pub fn replace_not_allowed(store: &[u8], role: Role, k: u32, bytes: &[u8]) -> bo
             if k == 0 {
                 return true;
             }
-            if kind_of(store, k) == 1 {
+            if is_kind(store, k, Kind::Vertex) {
                 return true;
             }
             if next_of(bytes, 0) == next_of(store, k) {
-                return kind_of(bytes, 0) == 1;
+                return is_kind(bytes, 0, Kind::Vertex);
             }
             return true;
         }
@@ -36,7 +36,7 @@ pub fn add_not_allowed(store: &[u8], role: Role, added: &[u8]) -> bool
             return false;
         }
         Role::Operator => {
-            return kind_of(added, 0) == 1;
+            return is_kind(added, 0, Kind::Vertex);
         }
     }
 }

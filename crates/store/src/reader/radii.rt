@@ -3,14 +3,14 @@ ghost use Rattle.std.specs.Prelude.{◌≡◌};
 ghost use Rattle.store.specs.Answers.{told};
 ghost use Rattle.store.specs.Radii.{below_axis, radii_answer};
 
-use crate::{RefusedStore, kind_of, number_of};
+use crate::{Kind, RefusedStore, is_kind, number_of};
 use section::Refusal;
 
 // A vertex with a radius below -1e-9.
 fn below_axis(store: &[u8], k: u32) -> bool
     ensures { result ≡ below_axis store.now k }
 {
-    if kind_of(store, k) == 1 {
+    if is_kind(store, k, Kind::Vertex) {
         return number_of(store, k, 1) < -1e-9;
     }
     false

@@ -50,7 +50,7 @@ pub fn edit_store(space: &mut [u8], length: usize, edit: Edit) -> Result<usize, 
     let role = edit.role;
     let place = edit.place;
     let bytes = edit.bytes;
-    space_answer(space, length).map_err(|refused| refused.refusal)?;
+    space_answer(space, length)?;
     match place {
         Place::Record(k) => replace(space, length, role, k, &bytes),
         Place::Add => add(space, length, role, &bytes),

@@ -13,7 +13,7 @@ fn keep(space: &mut [u8], trial: &[u8], size: usize) -> Result<usize, Refusal>
     requires { length space.old ≡ length trial.now }
     ensures { Tried space.old trial.now size result space.new }
 {
-    space_answer(trial, size).map_err(|refused| refused.refusal)?;
+    space_answer(trial, size)?;
     put(space, 0, trial);
     Ok(size)
 }
@@ -50,9 +50,7 @@ pub fn try_add(space: &mut [u8], size: usize, m: usize, t: u32, bytes: &[u8]) ->
     put(&mut trial, 0, space);
     let new = ending(bytes);
     put(&mut trial, m * 40, &new);
-    let low = (m % 256) as u8;
-    let high = (m / 256) as u8;
-    let link = [low, high, 0, 0];
+    let link = (m as u32).to_le_bytes();
     put(&mut trial, t as usize * 40, &link);
     keep(space, &trial, size)
 }

@@ -1,5 +1,5 @@
 -- `loads::runs::put_vertices`. Two states go into a vertex in a turn.
-use Prim.Native.Nat.{◌-◌, ◌*◌, ◌≤◌}
+use Prim.Native.Nat.{◌*◌}
 use mathlib.Core.Path.{◌≡◌}
 use lib.ListN.{length}
 use Rattle.loads.specs.Xorshift.{state_after}
@@ -9,7 +9,5 @@ use Rattle.loads.proofs.runs.put_vertices.Given as goal
 
 abbrev pub invariant-loop-i : goal.invariant-loop-i
 invariant-loop-i l =
-    (l.i ≤ l.n) × (length l.space ≡ length l.initial.space) × Drawn l.initial.space 40 (load_vertices l.seed l.i) l.space (state_after l.seed (l.i * 2)) l.state
-
-abbrev pub decreases-loop-i : goal.decreases-loop-i
-decreases-loop-i l = l.n - l.i
+    (length l.space ≡ length l.initial.space)
+    × Drawn l.initial.space 40 (load_vertices l.seed l.i) l.space (state_after l.seed (l.i * 2)) l.state

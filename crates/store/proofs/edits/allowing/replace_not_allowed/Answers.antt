@@ -11,10 +11,10 @@ pub returns-then-k-eq0 : goal.returns-then-k-eq0
 unfolding not_allowed
 returns-then-k-eq0 c = rw (c.in-Operator.is, eq-eqb _ _ c.if-k-eq0.true)
 
-pub returns-then-kind_of-eq1 : goal.returns-then-kind_of-eq1
+pub returns-then-is_kind : goal.returns-then-is_kind
 unfolding not_allowed
-returns-then-kind_of-eq1 c =
-    rw (c.in-Operator.is, ne_eqb _ _ c.if-k-eq0.false, ← c.kind_of.ensures, eq-eqb _ _ c.if-kind_of-eq1.true)
+returns-then-is_kind c =
+    rw (c.in-Operator.is, ne_eqb _ _ c.if-k-eq0.false, ← c.is_kind.ensures, c.if-is_kind.true)
 
 pub returns-then-next_of : goal.returns-then-next_of
 unfolding not_allowed
@@ -22,12 +22,12 @@ returns-then-next_of c =
     rw (
       c.in-Operator.is,
       ne_eqb _ _ c.if-k-eq0.false,
-      ← c.kind_of.ensures,
-      ne_eqb _ _ c.if-kind_of-eq1.false,
+      ← c.is_kind.ensures,
+      c.if-is_kind.false,
       ← c.next_of.ensures,
       ← c.next_of-in-Operator.ensures,
       eq-eqb _ _ c.if-next_of.true,
-      ← c.kind_of-then-next_of.ensures,
+      ← c.is_kind-then-next_of.ensures,
     )
 
 pub returns-in-Operator : goal.returns-in-Operator
@@ -36,8 +36,8 @@ returns-in-Operator c =
     rw (
       c.in-Operator.is,
       ne_eqb _ _ c.if-k-eq0.false,
-      ← c.kind_of.ensures,
-      ne_eqb _ _ c.if-kind_of-eq1.false,
+      ← c.is_kind.ensures,
+      c.if-is_kind.false,
       ← c.next_of.ensures,
       ← c.next_of-in-Operator.ensures,
       ne_eqb _ _ c.if-next_of.false,
