@@ -63,7 +63,7 @@ impl Slab {
         ensures { result ≡ measure s.now self.band self.part.piece }
     {
         let spans = self.spans_of();
-        let hit = box_distance_near(s, box_of(self.part.piece, spans), hint);
+        let hit = box_distance_near(s, box_of(self.part.piece, spans), Some(hint));
         Measured {
             hit,
             variation: variation_of(spans),
