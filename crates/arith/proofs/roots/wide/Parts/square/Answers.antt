@@ -9,15 +9,6 @@ hi_lt c h = omega arith
 lo_lt : (c : ℕ) → c % 268435456 < 2 ^ 28
 lo_lt c = omega arith
 
-pub overflow_mul-h : goal.overflow_mul-h
-overflow_mul-h c = let h = product 26 26 (hi_lt c.args.c c.requires) (hi_lt c.args.c c.requires) in omega arith
-
-pub overflow_mul-m : goal.overflow_mul-m
-overflow_mul-m c = let h = product 26 28 (hi_lt c.args.c c.requires) (lo_lt c.args.c) in omega arith
-
-pub overflow_mul-l : goal.overflow_mul-l
-overflow_mul-l c = let h = product 28 28 (lo_lt c.args.c) (lo_lt c.args.c) in omega arith
-
 pub returns : goal.returns
 returns c =
     let e = digits c.args.c in
