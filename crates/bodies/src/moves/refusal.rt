@@ -51,6 +51,6 @@ pub fn before_placing(
     let start = travel.start;
     let end = travel.end;
     let extra = [clearance, start.x, start.y, start.z, end.x, end.y, end.z];
-    beside_refusal(section, body, &extra[..], settings_refusal(settings))?;
-    steps_refusal(travel.steps)
+    let given = beside_refusal(section, body, &extra[..], settings_refusal(settings));
+    given.and(steps_refusal(travel.steps))
 }
