@@ -1,5 +1,5 @@
--- Loops over the first n of a list that leave at the first element that decides: what is not yet tried decides for all n. By the
--- element that stands at the head of what is left.
+-- Loops over a list, or over its first n, that leave at the first element that decides: what is not yet tried decides for all. By
+-- the element that stands at the head of what is left.
 use Prim.Native.Nat.{ℕ, suc, ◌+◌, ◌<◌, ◌≤◌}
 use native.Mathlib.Nat.{le_of_eq, le_trans, lt_of_lt_of_le}
 use native.Mathlib.Numerals.{add-one}

@@ -14,14 +14,19 @@ use section::Refusal;
 fn own_collision(section: &[f64], body: Body, clearance: f64) -> bool
     ensures { result ≡ own_collision section.now clearance body }
 {
-    matches!(verdict_body(section, body, clearance), Ok(Verdict::Collision))
+    matches!(
+        verdict_body(section, body, clearance),
+        Ok(Verdict::Collision)
+    )
 }
 
 // None is judged after the first that collides.
 fn any_collision(section: &[f64], bodies: &[Body], clearance: f64) -> bool
     ensures { result ≡ any_of (own_collision section.now clearance) bodies.now }
 {
-    bodies.iter().any(|body| own_collision(section, *body, clearance))
+    bodies
+        .iter()
+        .any(|body| own_collision(section, *body, clearance))
 }
 
 // Collision or clear, or why the call is turned down. It asks nothing of the caller; what stands in the array

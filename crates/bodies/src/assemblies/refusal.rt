@@ -10,6 +10,7 @@ use crate::{Body, body_alone};
 use section::{Refusal, body_refusal};
 
 // Number 17: more than 64 bodies.
+#[tactic(auto, unfolding(section::specs::profile::Refusals::refusal))]
 fn count_refusal(count: usize) -> Result<(), Refusal>
     ensures { refused_by result ≡ refusal (count_tests count) }
 {

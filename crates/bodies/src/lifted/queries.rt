@@ -37,10 +37,7 @@ pub fn lifted_sphere(section: &[f64], sphere: Sphere) -> Result<Lifted<Collision
 }
 
 // The same of `query_cylinder` at the finest settings; the middle is the mean of the ends.
-pub fn lifted_cylinder(
-    section: &[f64],
-    cylinder: Cylinder,
-) -> Result<Lifted<CountedHit>, Refusal>
+pub fn lifted_cylinder(section: &[f64], cylinder: Cylinder) -> Result<Lifted<CountedHit>, Refusal>
     ensures { let s = section.now in
         Answers (told result) (lifted_cylinder s cylinder)
         (WithPlaceCounted (Promised s cylinder finest_settings.finest) (middle_x cylinder) (middle_y cylinder)) }

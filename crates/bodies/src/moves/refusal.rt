@@ -28,13 +28,11 @@ fn beside_refusal(
 }
 
 // Number 19: no step, or more than 4,096.
+#[tactic(auto, unfolding(section::specs::profile::Refusals::refusal))]
 fn steps_refusal(steps: u32) -> Result<(), Refusal>
     ensures { refused_by result ≡ refusal (steps_tests steps) }
 {
-    if steps < 1 {
-        return Err(Refusal::BadSteps);
-    }
-    if 4096 < steps {
+    if steps < 1 || 4096 < steps {
         return Err(Refusal::BadSteps);
     }
     Ok(())
@@ -53,6 +51,6 @@ pub fn before_placing(
     let start = travel.start;
     let end = travel.end;
     let extra = [clearance, start.x, start.y, start.z, end.x, end.y, end.z];
-    beside_refusal(section, body, &extra[..], settings_refusal(settings))?;
-    steps_refusal(travel.steps)
+    let given = beside_refusal(section, body, &extra[..], settings_refusal(settings));
+    given.and(steps_refusal(travel.steps))
 }

@@ -33,11 +33,7 @@ pub fn query_pair(chuck: &[f64], work: &[f64], body: Body) -> Result<Won, Refusa
 }
 
 // A convex body counts no box.
-pub fn query_pair_convex(
-    chuck: &[f64],
-    work: &[f64],
-    convex: &[f64],
-) -> Result<Won, Refusal>
+pub fn query_pair_convex(chuck: &[f64], work: &[f64], convex: &[f64]) -> Result<Won, Refusal>
     ensures { let c = chuck.now in let w = work.now in
         Answers (told result) (pair_convex_answer c w convex.now) (PairConvexPromised c w) }
 {
@@ -48,11 +44,7 @@ pub fn query_pair_convex(
 }
 
 // The list of the section that won, as it was lent; an empty part where the call is turned down.
-fn winner<'a>(
-    chuck: &'a [f64],
-    work: &'a [f64],
-    answer: Result<Won, Refusal>,
-) -> &'a [f64]
+fn winner<'a>(chuck: &'a [f64], work: &'a [f64], answer: Result<Won, Refusal>) -> &'a [f64]
     ensures { (result.now ≡ handed_back chuck.now work.now [] (told answer))
         × (result.ref_ptr ≡ handed_back chuck.entry.ref_ptr work.entry.ref_ptr chuck.entry.ref_ptr (told answer)) }
 {

@@ -18,11 +18,7 @@ fn section_refusal(section: &[f64]) -> Result<(), Refusal>
     Ok(())
 }
 
-pub fn pair_refusal(
-    chuck: &[f64],
-    work: &[f64],
-    own: Result<(), Refusal>,
-) -> Result<(), Refusal>
+pub fn pair_refusal(chuck: &[f64], work: &[f64], own: Result<(), Refusal>) -> Result<(), Refusal>
     ensures { let c = refusal (one_section_tests chuck.now) in let w = refusal (one_section_tests work.now) in
         refused_by result ≡ or_else c (or_else w (refused_by own)) }
 {

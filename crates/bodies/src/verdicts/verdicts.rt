@@ -43,7 +43,11 @@ pub fn verdict_box(section: &[f64], x: Aabb, clearance: f64) -> Result<Verdict, 
     Ok(judged(box_distance(section, x).distance, clearance))
 }
 
-pub fn verdict_cylinder(section: &[f64], cylinder: Cylinder, clearance: f64) -> Result<Verdict, Refusal>
+pub fn verdict_cylinder(
+    section: &[f64],
+    cylinder: Cylinder,
+    clearance: f64,
+) -> Result<Verdict, Refusal>
     ensures { told result ≡ body_verdict section.now (body_kinds.Cylinder cylinder) clearance }
 {
     let extra = [clearance];

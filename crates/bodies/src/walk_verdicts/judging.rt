@@ -22,7 +22,11 @@ fn judged_walk(axis: Axis, cylinder: Cylinder, clearance: f64, h: CountedHit) ->
     }
 }
 
-pub fn verdict_walk(section: &[f64], cylinder: Cylinder, clearance: f64) -> Result<JudgedWalk, Refusal>
+pub fn verdict_walk(
+    section: &[f64],
+    cylinder: Cylinder,
+    clearance: f64,
+) -> Result<JudgedWalk, Refusal>
     ensures { Answers (told result) (walk_verdict section.now cylinder clearance) FewCounted }
 {
     let extra = [clearance];

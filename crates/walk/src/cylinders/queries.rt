@@ -31,15 +31,15 @@ fn query_radial(s: &[f64], c: Cylinder, t: Settings) -> CountedHit
     band_distance(s, RadialBand::from_cylinder(c), t)
 }
 
+#[tactic(auto, unfolding(crate::specs::cylinders::Cylinders::cylinder_distance))]
 pub fn cylinder_distance(s: &[f64], c: Cylinder, axis: Axis, t: Settings) -> CountedHit
     requires { Measurable s.now c axis t }
     ensures { result ≡ cylinder_distance s.now c t }
 {
     match axis {
-        Axis::Axial => query_axial(s, c),
+        Axis::Axial | Axis::Neither => query_axial(s, c),
         Axis::AlongX => query_radial(s, c, t),
         Axis::AlongY => query_radial(s, exchanged(c), t),
-        Axis::Neither => query_axial(s, c),
     }
 }
 

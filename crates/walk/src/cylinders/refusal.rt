@@ -10,6 +10,7 @@ use crate::bands::{Axis, Cylinder};
 use section::{Refusal, body_refusal};
 
 // A negative radius, and an axis neither along nor across the spindle.
+#[tactic(auto, unfolding(section::specs::profile::Refusals::refusal))]
 pub fn own_refusal(radius: f64, axis: Axis) -> Result<(), Refusal>
     ensures { refused_by result ≡ refusal (cylinder_own radius axis) }
 {
@@ -17,9 +18,7 @@ pub fn own_refusal(radius: f64, axis: Axis) -> Result<(), Refusal>
         return Err(Refusal::NegativeRadius);
     }
     match axis {
-        Axis::Axial => Ok(()),
-        Axis::AlongX => Ok(()),
-        Axis::AlongY => Ok(()),
+        Axis::Axial | Axis::AlongX | Axis::AlongY => Ok(()),
         Axis::Neither => Err(Refusal::SkewCylinder),
     }
 }

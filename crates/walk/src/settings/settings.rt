@@ -19,28 +19,15 @@ pub fn finest() -> Settings
 }
 
 // Number 18: a setting is out of range or not finite.
+#[tactic(auto, unfolding(section::specs::profile::Refusals::refusal))]
 pub fn settings_refusal(t: Settings) -> Result<(), Refusal>
     ensures { refused_by result ≡ refusal (settings.settings_tests t) }
 {
-    let tolerance = t.tolerance;
-    let most = t.most;
-    let intervals = t.intervals;
-    if tolerance >= 1e-9 {
-        if tolerance <= 1.0 {
-            if most < 1 {
-                return Err(Refusal::BadSettings);
-            }
-            if 8192 < most {
-                return Err(Refusal::BadSettings);
-            }
-            if intervals < 1 {
-                return Err(Refusal::BadSettings);
-            }
-            if 64 < intervals {
-                return Err(Refusal::BadSettings);
-            }
-            return Ok(());
-        }
+    if !(t.tolerance >= 1e-9 && t.tolerance <= 1.0) {
+        return Err(Refusal::BadSettings);
     }
-    Err(Refusal::BadSettings)
+    if t.most < 1 || 8192 < t.most || t.intervals < 1 || 64 < t.intervals {
+        return Err(Refusal::BadSettings);
+    }
+    Ok(())
 }
