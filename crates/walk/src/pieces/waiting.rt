@@ -8,6 +8,7 @@ use super::shapes::{Cross, Part, Piece};
 use crate::bands::{RadialBand, Span};
 use std::marker::Model;
 
+// What stands in the array before a piece waits there.
 const NOWHERE: Part = Part {
     piece: Piece { z0: 0.0, z1: 0.0 },
     left: Cross {
