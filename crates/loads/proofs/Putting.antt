@@ -1,20 +1,19 @@
 -- Bytes put into the space: the fields of a record one behind the other, records behind records while the state goes on, and the whole
 -- load from the front on.
-use Prim.Native.Nat.{ℕ, zero, suc, ◌+◌, ◌-◌, ◌*◌, ◌/◌, ◌%◌, ◌≤◌}
+use Prim.Native.Nat.{ℕ, zero, suc, ◌+◌, ◌*◌, ◌≤◌}
 use native.Mathlib.Nat.{add-zero, add-suc, zero-mul}
 use native.Mathlib.Numerals.{add-one}
 use native.Mathlib.Omega.{arith}
-use mathlib.Core.List.{List, ◌∷◌, ◌++◌, flat_map}
+use mathlib.Core.List.{List, ◌++◌, flat_map}
 use mathlib.Core.Path.{◌≡◌, refl, sym, ap, ap₂, subst, ◌∙◌}
-use lib.ListN.{length, set, length-set}
-use lib.Seq.{sets, length-sets}
-use Rattle.store.specs.Bytes.{low_bytes}
+use lib.ListN.{length}
+use lib.Seq.{sets}
 use Rattle.store.specs.Records.{record_bytes}
 use Rattle.store.specs.edits.Steps.{Put}
 use Rattle.store.proofs.ReadBack.{length_record}
 use Rattle.listings.specs.store_listing.Listing.{Prints}
 use Rattle.listings.specs.store_listing.Steps.{Written}
-use Rattle.listings.proofs.store_listing.Writing.{then, nothing_written, front_written}
+use Rattle.listings.proofs.store_listing.Writing.{then, front_written}
 use Rattle.loads.specs.Xorshift.{xorshift, state_after}
 use Rattle.loads.specs.Load.{coordinate_bits, radius_bits, vertex_record, sphere_next, sphere_record, up_to}
 use Rattle.loads.specs.Load.{load_vertices, load_spheres, load}

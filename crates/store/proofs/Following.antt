@@ -19,7 +19,6 @@ use Rattle.store.specs.Chain.{Chain, whole, broken, member, follow, chain, in_or
 use Rattle.store.specs.Store.{links_answer}
 use Rattle.store.specs.Steps.{ChainRoom, Visits, Fills}
 use Rattle.store.proofs.Filling.{fills_front, fills_refused}
-use Rattle.store.specs.declared.answers.RefusedStore.{RefusedStore}
 
 -- n records are passed, in order, each with its mark, and record k is next
 pub record Following (b order : List ℕ) (marks : List Bool) (k n : ℕ) : Type 0 where

@@ -1,5 +1,5 @@
 -- What the functions behind the entry points ask of each other and promise.
-use Rattle.std.specs.Prelude.{ℕ, ◌+◌, ◌*◌, ◌/◌, ◌<◌, ◌≤◌, ◌^◌, Bool, true, cond, List, ◌≡◌, length, take, set, ltb, Float, Result, Ok, Err}
+use Rattle.std.specs.Prelude.{ℕ, ◌+◌, ◌*◌, ◌/◌, ◌≤◌, Bool, true, cond, List, ◌≡◌, length, take, set, ltb, Float, Result, Ok, Err}
 use Rattle.std.proofs.lemmas.List.Edits.{sets}
 use Rattle.section.specs.profile.Numbers.{refusal_number}
 use Rattle.store.specs.Records.{records, next}

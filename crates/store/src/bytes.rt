@@ -16,7 +16,12 @@ fn u32_at(b: &[u8], i: usize) -> u32
     requires { i < 2 ^ 40 }
     ensures { result ≡ u32_at b.now i }
 {
-    u32::from_le_bytes([byte_at(b, i), byte_at(b, i + 1), byte_at(b, i + 2), byte_at(b, i + 3)])
+    u32::from_le_bytes([
+        byte_at(b, i),
+        byte_at(b, i + 1),
+        byte_at(b, i + 2),
+        byte_at(b, i + 3),
+    ])
 }
 
 pub fn u64_at(b: &[u8], i: usize) -> u64

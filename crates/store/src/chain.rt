@@ -48,5 +48,8 @@ pub fn follow_chain(store: &[u8], order: &mut [u32]) -> Result<usize, RefusedSto
         }
         k = next;
     }
-    Err(RefusedStore { refusal: Refusal::BadLink, at: k })
+    Err(RefusedStore {
+        refusal: Refusal::BadLink,
+        at: k,
+    })
 }

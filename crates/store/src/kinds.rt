@@ -43,7 +43,8 @@ fn right_kind(store: &[u8], k: u32) -> bool
     if k == 0 {
         return is_kind(store, k, Kind::Start);
     }
-    is_kind(store, k, Kind::Vertex) || (is_kind(store, k, Kind::Sphere) || is_kind(store, k, Kind::Box))
+    is_kind(store, k, Kind::Vertex)
+        || (is_kind(store, k, Kind::Sphere) || is_kind(store, k, Kind::Box))
 }
 
 // The first record of a wrong kind, in chain order.

@@ -54,6 +54,6 @@ pub fn list_input(buffer: &[u8; 20480], n: usize, text: &mut [u8; 28923]) -> usi
     let room: &[u8] = buffer;
     match length_answer(n) {
         Ok(()) => put_listing(&room[..n], text),
-        Err(refused) => put_refusal_line(refused.refusal.number(), refused.at, text),
+        Err(length) => put_refusal_line(length.refusal.number(), length.at, text),
     }
 }

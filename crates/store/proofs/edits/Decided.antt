@@ -8,7 +8,7 @@ use lib.ListN.{length, take, get_or, length-take}
 use lib.Seq.{sets, get_or-take}
 use lib.Dec.{ltb}
 use borrow.Author.Tests.{le-leb, lt-leb}
-use Rattle.std.specs.Prelude.{Result, Ok, Err}
+use Rattle.std.specs.Prelude.{Result, Err}
 use Rattle.section.specs.declared.shapes.Refusal.{Refusal}
 use Rattle.section.specs.declared.shapes.Refusal.TheVariants as refusals
 use Rattle.section.specs.profile.Numbers.{refusal_number}

@@ -41,7 +41,13 @@ fn ending(bytes: &[u8]) -> [u8; 40]
 }
 
 // The bytes, with next 0, in record m, and record t's next leading to it.
-pub fn try_add(space: &mut [u8], size: usize, m: usize, t: u32, bytes: &[u8]) -> Result<usize, Refusal>
+pub fn try_add(
+    space: &mut [u8],
+    size: usize,
+    m: usize,
+    t: u32,
+    bytes: &[u8],
+) -> Result<usize, Refusal>
     requires { (length space.old ≡ 20480) × (length bytes.now ≡ 40) × (m < 512) × (t < 512) }
     ensures { let s = space.old in
         Tried s (appended s m t bytes.now) size result space.new }

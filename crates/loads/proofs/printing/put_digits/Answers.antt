@@ -1,5 +1,4 @@
 -- `loads::printing::put_digits`. One byte has its two digits in a turn.
-use native.Mathlib.Omega.{arith}
 use mathlib.Core.List.{flat_map}
 use mathlib.Core.Path.{refl}
 use lib.Seq.{take_all}

@@ -1,6 +1,5 @@
 -- `store::chain::follow_chain`. One record of the chain is passed in a turn.
 use native.Mathlib.Omega.{arith}
-use lib.ListN.{length-set}
 use Rattle.store.proofs.Following.{starts, turn_ends, turn_breaks, turn_goes_on, used_up, ended, stopped}
 use borrow.Author.Rules.{rules}
 use Rattle.store.proofs.chain.follow_chain.Goals as goal

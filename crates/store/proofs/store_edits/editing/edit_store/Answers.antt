@@ -1,8 +1,7 @@
 -- `store::store_edits::editing::edit_store` meets its contract.
 use mathlib.Core.Path.{sym}
 use Rattle.store.proofs.Handed.{handed_on}
-use Rattle.store.proofs.edits.Decided.{refused_space, at_place}
-use borrow.Author.Rules.{rules}
+use Rattle.store.proofs.edits.Decided.{refused_space}
 use Rattle.store.proofs.store_edits.editing.edit_store.Goals as goal
 
 pub returns-in_err-space_answer : goal.returns-in_err-space_answer
