@@ -12,7 +12,7 @@ returns-in_err-one_body_refusal c =
     rw (handed_on c.from_residual.result c.from_residual.ensures) (own_refused _ _ c.in_err-one_body_refusal.ensures)
 
 pub body_at-requires : goal.body_at-requires
-body_at-requires c = seven_given _ _ (sym c.in_ok-one_body_refusal.ensures)
+body_at-requires c = seven_given c.args.kind c.args.numbers.now (sym c.in_ok-one_body_refusal.ensures)
 
 pub returns : goal.returns
 unfolding move_of
