@@ -42,5 +42,7 @@ pub fn infinity() -> f64
 pub fn is_finite(x: f64) -> bool
     ensures { result ≡ num.is_finite x }
 {
-    x.is_finite()
+    // by comparisons: loops over edges take longer with std's own test, x - x == 0.0
+    let top = infinity();
+    -top < x && x < top
 }
