@@ -20,7 +20,7 @@ use Rattle.section.specs.points.Points.{crosses}
 use Rattle.section.specs.probes.Probes.{OddNext}
 use Rattle.section.specs.probes.Radii.{Reaches, Spans, Unparted, Within}
 use Rattle.section.specs.declared.probes.shapes.Probes.{Probes}
-use Rattle.section.specs.declared.probes.shapes.Reach.{Reach}
+use Rattle.section.specs.declared.ranges.shapes.Range.{Range}
 
 module _ (lo hi r : Float) (L : Number lo) (H : Number hi) (R : Number r) where
   -- at numbers, the order of keys
@@ -87,7 +87,7 @@ not_crossed : (p a b : Vertex) (odd : Bool) → unlike (p.r ≺ a.r) (p.r ≺ b.
 unfolding crosses
 not_crossed p a b odd e = rw e (kept odd)
 
-module _ (at : Probes Vertex) (reach : Reach) (w : Reaches at reach) (odd : Probes Bool) where
+module _ (at : Probes Vertex) (reach : Range) (w : Reaches at reach) (odd : Probes Bool) where
   kept_at : (a b : Vertex) (k : ℕ) → Unparted reach.lo reach.hi a.r b.r
       → OddNext at (record { a = a; b = b; number = k }) odd odd
   kept_at a b k u = record {

@@ -12,11 +12,11 @@ use crate::profile::{Aabb, CollisionHit, Vertex, Witness, any_edge, nearer_of, o
 use crate::segments::{INTERIOR, clip_segment, lerp};
 use crate::signed::result_of;
 
+#[tactic(auto, unfolding(crate::specs::boxes::Boxes::strictly_inside_aabb))]
 pub fn strictly_inside_aabb(v: Vertex, x: Aabb) -> bool
     ensures { result ≡ strictly_inside_aabb x v }
 {
-    v.z > x.z0 + INTERIOR
-        && (v.z < x.z1 - INTERIOR && (v.r > x.r0 + INTERIOR && v.r < x.r1 - INTERIOR))
+    v.z > x.z0 + INTERIOR && v.z < x.z1 - INTERIOR && v.r > x.r0 + INTERIOR && v.r < x.r1 - INTERIOR
 }
 
 fn middle_of(a: Vertex, b: Vertex) -> Vertex

@@ -24,10 +24,7 @@ pub fn edge_is_surface(a: Vertex, b: Vertex) -> bool
 fn passed_over(z: f64, r: f64, a: Vertex, b: Vertex, least: f64) -> bool
     ensures { result ≡ true → (apart (vertex z r) (closest_point (vertex z r) a b) ≺ least) ≡ false }
 {
-    if far_from(least, a.z, b.z, z) {
-        return true;
-    }
-    far_from(least, a.r, b.r, r)
+    far_from(least, a.z, b.z, z) || far_from(least, a.r, b.r, r)
 }
 
 // The edge, if it counts, lowers the distance that best has. Small enough for every loop to take it in, so that

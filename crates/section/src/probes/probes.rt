@@ -7,8 +7,9 @@ ghost use Rattle.section.specs.probes.Probes.{AllOutside, OddNext, OddProbes, Of
 ghost use Rattle.section.specs.probes.Radii.{Reaches};
 
 use super::reach::{reach_of, unparted};
-use super::shapes::{Probes, Reach};
+use super::shapes::Probes;
 use crate::profile::{CollisionHit, Edge, Vertex, edge_at, end_at, vertex_at};
+use crate::ranges::Range;
 use crate::signed::{crosses, deeper_at, deeper_inside};
 
 fn odd_after(p: Vertex, edge: Edge, odd: bool) -> bool
@@ -42,7 +43,7 @@ fn odd_next(edge: Edge, at: Probes<Vertex>, odd: Probes<bool>) -> Probes<bool>
 }
 
 // Edge k more. One that no probe's radius parts is passed over.
-fn odd_at(s: &[f64], at: Probes<Vertex>, reach: Reach, k: usize, odd: Probes<bool>) -> Probes<bool>
+fn odd_at(s: &[f64], at: Probes<Vertex>, reach: Range, k: usize, odd: Probes<bool>) -> Probes<bool>
     requires { (k < count s.now) × Reaches at reach }
     ensures { OddNext at (edge_at s.now k) odd result }
 {

@@ -10,10 +10,3 @@ pub struct Probes<T> {
     pub c11: T,
     pub c01: T,
 }
-
-// The least and the greatest radius of the probes, or -infinity and +infinity where they are not in order.
-#[derive(Clone, Copy)]
-pub struct Reach {
-    pub lo: f64,
-    pub hi: f64,
-}

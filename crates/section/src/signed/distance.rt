@@ -63,16 +63,11 @@ fn on_axis(s: &[f64], z: f64) -> bool
     any_edge(s, |a, b| inside_axis_edge(z, a, b))
 }
 
+#[tactic(auto, unfolding(crate::specs::points::Points::in_section))]
 pub fn in_section(s: &[f64], p: Vertex) -> bool
     ensures { result ≡ in_section s.now p }
 {
-    if point_inside(s, p) {
-        return true;
-    }
-    if p.r <= 1e-8 {
-        return on_axis(s, p.z);
-    }
-    false
+    point_inside(s, p) || (p.r <= 1e-8 && on_axis(s, p.z))
 }
 
 // The point (z, r), as two numbers: a Vertex just written is slow to read as a whole.
