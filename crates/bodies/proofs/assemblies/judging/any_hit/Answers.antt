@@ -34,4 +34,4 @@ returns-in_err-bodies_refusal c =
 pub returns : goal.returns
 returns c =
     by_verdicts _ _ _ _ c.in_ok-before_bodies.ensures refl c.in_ok-bodies_refusal.ensures refl
-    (c.of.ensures ∙ c.any_collision.ensures)
+    (c.from.ensures ∙ c.any_collision.ensures)
