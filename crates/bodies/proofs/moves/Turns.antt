@@ -1,13 +1,12 @@
 -- The loop over the steps: what holds before each turn, that a turn keeps it, and the answer where the loop ends, at the first
 -- step that is refused or behind the last. By the laws of tests in order, and by what each step's query gives.
-use Prim.Native.Nat.{ℕ, zero, suc, ◌+◌, ◌*◌, ◌<◌, ◌≤◌}
+use Prim.Native.Nat.{ℕ, ◌+◌, ◌*◌, ◌<◌, ◌≤◌}
 use native.Mathlib.Nat.{eq-or-lt_of_le, le_trans}
 use native.Mathlib.Omega.{arith}
-use mathlib.Core.Bool.{Bool, true, false}
 use mathlib.Core.List.{List}
 use mathlib.Core.Logic.{⊎_elim}
 use mathlib.Core.Path.{◌≡◌, refl, ap, subst, sym, ◌∙◌}
-use lib.Dec.{T, lit≤}
+use lib.Dec.{lit≤}
 use lib.Ieee.{Float}
 use Rattle.section.specs.profile.Refusals.{Test, refusal}
 use Rattle.section.specs.profile.Replies.{Reply, value, turned_down, reply, OfValue, Answers}

@@ -42,5 +42,5 @@ pub fn any_hit(
     before_bodies(section, count, clearance)?;
     let given = &bodies[..count];
     bodies_refusal(given)?;
-    Ok(Verdict::of(any_collision(section, given, clearance)))
+    Ok(Verdict::from(any_collision(section, given, clearance)))
 }

@@ -8,13 +8,15 @@ pub enum Verdict {
     Collision,
 }
 
-impl Verdict {
-    pub fn of(collides: bool) -> Verdict
-        ensures { is_collision result ≡ collides }
-    {
+// True is a collision.
+impl From<bool> for Verdict {
+    ghost from_gives = { λ collides verdict. is_collision verdict ≡ collides };
+
+    fn from(collides: bool) -> Verdict {
         if collides {
-            return Verdict::Collision;
+            Verdict::Collision
+        } else {
+            Verdict::Clear
         }
-        Verdict::Clear
     }
 }

@@ -24,7 +24,7 @@ pub fn collides(distance: f64, clearance: f64) -> bool
 fn judged(distance: f64, clearance: f64) -> Verdict
     ensures { is_collision result ≡ collides distance clearance }
 {
-    Verdict::of(collides(distance, clearance))
+    Verdict::from(collides(distance, clearance))
 }
 
 pub fn verdict_sphere(section: &[f64], sphere: Sphere, clearance: f64) -> Result<Verdict, Refusal>

@@ -1,11 +1,9 @@
 -- `bodies::assemblies::judging::any_hit` meets its contract.
 use Prim.Native.Nat.{◌≤◌}
-use native.Mathlib.Omega.{arith}
-use mathlib.Core.Path.{refl, ap, sym, ◌∙◌}
+use mathlib.Core.Path.{refl, sym, ◌∙◌}
 use borrow.Author.Rules.{rules}
 use lib.ListN.{length}
 use lib.Seq.{length-take-le}
-use Rattle.section.specs.profile.Replies.{value}
 use Rattle.section.proofs.profile.Numbered.{above_zero, handed_on}
 use Rattle.bodies.proofs.assemblies.Answer.{by_before, by_body, by_verdicts}
 use Rattle.bodies.proofs.assemblies.Taken.{count_taken}
@@ -34,4 +32,4 @@ returns-in_err-bodies_refusal c =
 pub returns : goal.returns
 returns c =
     by_verdicts _ _ _ _ c.in_ok-before_bodies.ensures refl c.in_ok-bodies_refusal.ensures refl
-    (c.of.ensures ∙ c.any_collision.ensures)
+    (c.from.ensures ∙ c.any_collision.ensures)

@@ -1,7 +1,6 @@
 -- `bodies::trials::trying::try_move` meets its contract: a number before the placements, or a fold over the steps that the first
 -- refused one leaves.
 use native.Mathlib.Omega.{arith}
-use Prim.Native.Nat.{◌<◌, ◌≤◌, ◌+◌}
 use mathlib.Core.Path.{refl, sym}
 use Rattle.section.proofs.profile.Numbered.{above_zero, handed_on}
 use Rattle.bodies.proofs.moves.Turns.{before_refused, start, ended, step_refused, step_fits, step_more}
