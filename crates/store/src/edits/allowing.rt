@@ -10,20 +10,11 @@ pub fn replace_not_allowed(store: &[u8], role: Role, k: u32, bytes: &[u8]) -> bo
     ensures { result ≡ not_allowed store.now role (Record k) bytes.now }
 {
     match role {
-        Role::Setter => {
-            return false;
-        }
+        Role::Setter => false,
         Role::Operator => {
-            if k == 0 {
-                return true;
-            }
-            if is_kind(store, k, Kind::Vertex) {
-                return true;
-            }
-            if next_of(bytes, 0) == next_of(store, k) {
-                return is_kind(bytes, 0, Kind::Vertex);
-            }
-            return true;
+            k == 0
+                || (is_kind(store, k, Kind::Vertex)
+                    || (next_of(bytes, 0) != next_of(store, k) || is_kind(bytes, 0, Kind::Vertex)))
         }
     }
 }
@@ -32,11 +23,7 @@ pub fn add_not_allowed(store: &[u8], role: Role, added: &[u8]) -> bool
     ensures { result ≡ not_allowed store.now role Add added.now }
 {
     match role {
-        Role::Setter => {
-            return false;
-        }
-        Role::Operator => {
-            return is_kind(added, 0, Kind::Vertex);
-        }
+        Role::Setter => false,
+        Role::Operator => is_kind(added, 0, Kind::Vertex),
     }
 }

@@ -10,10 +10,7 @@ use section::Refusal;
 fn below_axis(store: &[u8], k: u32) -> bool
     ensures { result ≡ below_axis store.now k }
 {
-    if is_kind(store, k, Kind::Vertex) {
-        return number_of(store, k, 1) < -1e-9;
-    }
-    false
+    is_kind(store, k, Kind::Vertex) && number_of(store, k, 1) < -1e-9
 }
 
 // The first such record, in chain order.

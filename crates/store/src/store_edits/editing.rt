@@ -47,12 +47,9 @@ fn add(space: &mut [u8], n: usize, role: Role, bytes: &[u8]) -> Result<usize, Re
 pub fn edit_store(space: &mut [u8], length: usize, edit: Edit) -> Result<usize, Refusal>
     ensures { Edited space.old length edit.role edit.place edit.bytes result space.new }
 {
-    let role = edit.role;
-    let place = edit.place;
-    let bytes = edit.bytes;
     space_answer(space, length)?;
-    match place {
-        Place::Record(k) => replace(space, length, role, k, &bytes),
-        Place::Add => add(space, length, role, &bytes),
+    match edit.place {
+        Place::Record(k) => replace(space, length, edit.role, k, &edit.bytes),
+        Place::Add => add(space, length, edit.role, &edit.bytes),
     }
 }

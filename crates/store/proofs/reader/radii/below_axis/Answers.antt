@@ -4,8 +4,8 @@ use Rattle.store.proofs.reader.radii.below_axis.Goals as goal
 
 pub returns-then-is_kind : goal.returns-then-is_kind
 unfolding below_axis
-returns-then-is_kind c = rw (← c.is_kind.ensures, c.if-is_kind.true, ← c.number_of.ensures)
+returns-then-is_kind c = rw (← c.if-is_kind.ensures, ← c.number_of.ensures)
 
-pub returns : goal.returns
+pub returns-else-is_kind : goal.returns-else-is_kind
 unfolding below_axis
-returns c = rw (← c.is_kind.ensures, c.if-is_kind.false)
+returns-else-is_kind c = rw (c.if-is_kind.false, ← c.if-is_kind.ensures)
