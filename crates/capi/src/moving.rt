@@ -28,7 +28,13 @@ fn move_of(
         (MovePromised s (body_at kind n 0) travel settings) }
 {
     one_body_refusal(kind, numbers)?;
-    bodies::try_move(section, body_at(kind, numbers, 0), clearance, travel, settings)
+    bodies::try_move(
+        section,
+        body_at(kind, numbers, 0),
+        clearance,
+        travel,
+        settings,
+    )
 }
 
 pub fn jorghipa_move(

@@ -19,8 +19,8 @@ returns-then-other_kind c =
 pub loop-kind-preserved : goal.loop-kind-preserved
 loop-kind-preserved c =
     let l = c.args.kinds.now in
-      found_later l (length l) (le_refl _) other_kind c.loop-kind.kind-index c.loop-kind.invariant 0
-          c.loop-kind-test.true (sym c.other_kind.ensures ∙ c.if-other_kind.false)
+    found_later l (length l) (le_refl _) other_kind c.loop-kind.kind-index c.loop-kind.invariant 0
+    c.loop-kind-test.true (sym c.other_kind.ensures ∙ c.if-other_kind.false)
 
 pub returns : goal.returns
 returns c =
