@@ -1,5 +1,5 @@
 // What is turned down: a call's tests in their order, and the first that is true.
-ghost use Rattle.std.specs.Prelude.{◌≡◌, [], ◌∷◌, ◌++◌};
+ghost use Rattle.std.specs.Prelude.{◌≡◌, Bool, [], ◌∷◌, ◌++◌};
 ghost use Rattle.section.specs.profile.Numbers.{refused_by};
 ghost use Rattle.section.specs.profile.Refusals as refusals;
 ghost use Rattle.section.specs.profile.Refusals.{refusal, any_of};
@@ -10,26 +10,29 @@ use crate::Refusal;
 use crate::profile::{Aabb, Sphere};
 use arith::Vec3;
 
-fn any_not_finite(l: &[f64]) -> bool
-    ensures { result ≡ any_of refusals.not_finite l.now }
+// Some number passes the test.
+fn any_number<F: Fn(f64) -> bool>(l: &[f64], test: F) -> bool
+    requires { F.IsAlwaysCallable test }
+    ensures { (t : _ → Bool) → ((x r : _) → F.post test x r → r ≡ t x) → result ≡ any_of t l.now }
 {
     for x in l {
-        if !arith::is_finite(*x) {
+        if test(*x) {
             return true;
         }
     }
     false
 }
 
+fn any_not_finite(l: &[f64]) -> bool
+    ensures { result ≡ any_of refusals.not_finite l.now }
+{
+    any_number(l, |x| !arith::is_finite(x))
+}
+
 pub fn any_beyond_limit(l: &[f64]) -> bool
     ensures { result ≡ any_of beyond_limit l.now }
 {
-    for x in l {
-        if !(arith::abs(*x) <= 1048576.0) {
-            return true;
-        }
-    }
-    false
+    any_number(l, |x| !(arith::abs(x) <= 1048576.0))
 }
 
 fn not_finite_in(a: &[f64], b: &[f64], c: &[f64]) -> bool

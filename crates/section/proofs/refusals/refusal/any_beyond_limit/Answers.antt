@@ -1,17 +1,7 @@
--- `section::refusals::refusal::any_beyond_limit` meets its contract: what is not yet tried decides for the whole list.
-use Rattle.section.proofs.profile.Refusals.AnyOf.{any_of_more, any_of_at, any_of_end}
+-- `section::refusals::refusal::any_beyond_limit` meets its contract.
+use Rattle.std.proofs.Common.{rules}
+use Rattle.section.specs.profile.Steps.{beyond_limit}
 use Rattle.section.proofs.refusals.refusal.any_beyond_limit.Goals as goal
 
-pub loop-x-preserved : goal.loop-x-preserved
-loop-x-preserved c = any_of_more _ _ _ c.loop-x.invariant
-    c.loop-x-test.true
-    (rw (← c.abs.ensures, c.if-not-abs.false))
-
-pub returns-then-not-abs : goal.returns-then-not-abs
-returns-then-not-abs c =
-    any_of_at _ _ _ c.loop-x.invariant
-    c.loop-x-test.true
-    (rw (← c.abs.ensures, c.if-not-abs.true))
-
 pub returns : goal.returns
-returns c = any_of_end _ _ _ c.loop-x.invariant c.loop-x-test.false
+returns c = c.any_number.ensures beyond_limit (λ x r p. search rules)
