@@ -4,6 +4,7 @@ use native.Mathlib.Omega.{arith}
 use mathlib.Core.List.{List, [], ◌∷◌, ◌++◌}
 use mathlib.Core.Path.{◌≡◌, refl, ap}
 use lib.ListN.{length, get_or, set, take}
+use lib.Seq.{take-length}
 use lib.Ieee.{Float}
 use Rattle.std.proofs.lemmas.Grind.{common_steps}
 use Rattle.section.specs.declared.profile.shapes.Vertex.{Vertex}
@@ -38,3 +39,7 @@ filled_next {xs} {i} {l} {m} d f h k e =
       size = grind (arith, common_steps, e, f.size);
       front = grind (arith, common_steps, e, two, flattened_snoc (take i xs) v, f.front);
     }
+
+-- at the end the front is the flattened list
+pub answered : {xs : List Vertex} {l : List Float} → FrontFilled xs (length xs) l → take (2 * length xs) l ≡ flattened xs
+answered {xs} f = rw take-length at f.front

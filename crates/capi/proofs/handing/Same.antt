@@ -37,6 +37,16 @@ module _ {A : Type 0} {P : A → Type 0} where
   pub own_taken : {n : ℕ} {r answer : Reply A} → 0 ≡ n → Answers r answer P → Answers r (or_else_reply n answer) P
   own_taken h a = rw (← h) a
 
+-- so that nothing that was lent changes, or the call's answer is given
+module _ {A B : Type 0} {P : A → Type 0} {fields : A → B} {held : B} where
+  pub body_refused : (n : ℕ) (answer : Reply A) → (n ≡ 0 → ⊥) → Measures P fields (or_else_reply n answer) n held held
+  body_refused zero answer k = absurd (k refl)
+  body_refused (suc n) answer k = record { gives = record { returned = refl; lent = refl }; owed = tt }
+
+  pub body_taken : {answer : Reply A} {r : ℕ} {end : B} (n : ℕ) → n ≡ 0 → Measures P fields answer r held end
+      → Measures P fields (or_else_reply n answer) r held end
+  body_taken n z m = rw z m
+
 -- a cylinder's hit in the lent places: those of its part without counts, and its counts
 pub walked : {A C D : Type 0} (part : A → C) (fields : C → D) (counted : A → CountedHit) {a : Reply A} {h : A} {n : ℕ} {p q : D}
     {c : Counts} {held : CylinderPlaces D} → a ≡ value h → Gives fields (value (part h)) n p q → c ≡ hit_counts (counted h)
