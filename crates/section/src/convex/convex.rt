@@ -5,7 +5,7 @@ ghost use Rattle.std.specs.Float.Ieee.{neg};
 ghost use Rattle.arith.specs.F64.{◌⊗◌, ◌≺◌, 𝟘, e_9};
 ghost use Rattle.arith.specs.Num as num;
 ghost use Rattle.section.specs.profile.Vertices as profile;
-ghost use Rattle.section.specs.profile.Vertices.{hit, count, vertex_at, end_at, edge_at, any, nearer, nearest_of};
+ghost use Rattle.section.specs.profile.Vertices.{hit, count, vertex_at, end_at, edge_at, nearer, nearest_of};
 ghost use Rattle.section.specs.segments.Segments.{closest};
 ghost use Rattle.section.specs.points.Points.{point_distance};
 ghost use Rattle.section.specs.convex.Convex.{orient, point_in_convex, convex_near, signed_distance_convex};
@@ -186,35 +186,28 @@ fn crosses_edge(s: &[f64], j: usize, a: Vertex, b: Vertex, across: f64) -> bool
     proper_cross(a, b, vertex_at(s, j), end_at(s, j), across)
 }
 
-// The edge from a to b properly crosses one of the section. Where an edge of the section ends the next one starts.
-fn crosses_some(s: &[f64], a: Vertex, b: Vertex) -> bool
-    requires { 3 ≤ count s.now }
-    ensures { result ≡ any (λ j. proper_cross a b (vertex_at s.now j) (end_at s.now j)) (count s.now) }
-{
-    let m = s.len() / 2;
-    let mut side = orient(a, b, vertex_at(s, 0));
-    for j in 0..m {
-        let next = orient(a, b, end_at(s, j));
-        if crosses_edge(s, j, a, b, side * next) {
-            return true;
-        }
-        side = next;
-    }
-    false
-}
-
-// The search stops at the first proper crossing.
+// The search stops at the first proper crossing. Where an edge of the section ends the next one starts.
 fn any_cross(c: &[f64], s: &[f64]) -> bool
     requires { 3 ≤ count s.now }
     ensures { result ≡ any_cross c.now s.now }
 {
     let n = c.len() / 2;
-    for i in 0..n {
-        if crosses_some(s, vertex_at(c, i), end_at(c, i)) {
-            return true;
+    let m = s.len() / 2;
+    let mut found = false;
+    'search: for i in 0..n {
+        let a = vertex_at(c, i);
+        let b = end_at(c, i);
+        let mut side = orient(a, b, vertex_at(s, 0));
+        for j in 0..m {
+            let next = orient(a, b, end_at(s, j));
+            if crosses_edge(s, j, a, b, side * next) {
+                found = true;
+                break 'search;
+            }
+            side = next;
         }
     }
-    false
+    found
 }
 
 // The search runs only where the penetration does not decide.
