@@ -1,6 +1,7 @@
 -- What the functions on pieces compute on the way, and what is known of the pieces that wait.
-use Rattle.std.specs.Prelude.{List, [], ◌∷◌, map, ◌≡◌, Float}
-use Rattle.walk.specs.bands.Band.{half_width, mean, span_at}
+use Rattle.std.specs.Prelude.{ℕ, zero, suc, ◌+◌, ◌*◌, List, [], ◌∷◌, map, ◌≡◌, Float, get_or}
+use Rattle.std.specs.Float.{nan}
+use Rattle.walk.specs.bands.Band.{half_width, mean, span, span_at}
 use Rattle.walk.specs.declared.bands.shapes.RadialBand.{RadialBand}
 use Rattle.walk.specs.pieces.Pieces.{piece, whole_width, box_hit, variation}
 use Rattle.walk.specs.declared.pieces.shapes.Piece.{Piece}
@@ -21,6 +22,10 @@ cross_at b z = record { rho = half_width b z; span = span_at b (half_width b z) 
 abbrev pub part : Piece → Cross → Part
 part p left = record { piece = p; left = left }
 
+-- past the end of the array
+abbrev pub nowhere : Cross
+nowhere = record { rho = nan; span = span nan nan }
+
 -- the whole width, and p's halves
 abbrev pub whole : RadialBand → Part
 whole b = let p = whole_width b in part p (cross_at b p.z0)
@@ -30,6 +35,11 @@ left_half p = part (piece p.piece.z0 (mean p.piece.z0 p.piece.z1)) p.left
 
 abbrev pub right_half : RadialBand → Part → Part
 right_half b p = let m = mean p.piece.z0 p.piece.z1 in part (piece m p.piece.z1) (cross_at b m)
+
+-- the first n of the flat array of start and end, each with its left end, the last one first
+unfoldable pub stacked : List Float → List Cross → ℕ → List Part
+stacked w ls zero = []
+stacked w ls (suc n) = part (piece (get_or w (2 * n) nan) (get_or w (2 * n + 1) nan)) (get_or ls n nowhere) ∷ stacked w ls n
 
 abbrev pub pieces : List Part → List Piece
 pieces = map (λ (p : Part). p.piece)

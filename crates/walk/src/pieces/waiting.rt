@@ -1,34 +1,33 @@
 // The pieces that wait, the one taken next on top.
-ghost use Rattle.std.specs.Prelude.{◌≡◌, ◌+◌, ◌<◌, ◌≤◌, List, [], ◌∷◌, length, take, reverse, MatchOption};
+ghost use Rattle.std.specs.Prelude.{◌≡◌, ◌+◌, ◌<◌, ◌≤◌, List, [], ◌∷◌, length, MatchOption};
 ghost use Rattle.walk.specs.declared.pieces.shapes.Part.{Part};
-ghost use Rattle.walk.specs.pieces.Steps.{left_half, right_half};
+ghost use Rattle.walk.specs.pieces.Steps.{left_half, right_half, stacked};
 
 use super::ends::cross_at;
 use super::shapes::{Cross, Part, Piece};
 use crate::bands::{RadialBand, Span};
 use std::marker::Model;
 
-// What stands in the array before a piece waits there.
-const NOWHERE: Part = Part {
-    piece: Piece { z0: 0.0, z1: 0.0 },
-    left: Cross {
-        rho: 0.0,
-        span: Span { lo: 0.0, hi: 0.0 },
-    },
+// What is known at a left end before a piece waits there.
+const NOWHERE: Cross = Cross {
+    rho: 0.0,
+    span: Span { lo: 0.0, hi: 0.0 },
 };
 
+// Start and end of each piece in turn, and what is known at each left end.
 #[derive(Drop)]
 pub struct Waiting {
-    parts: [Part; 54],
+    pieces: [f64; 108],
+    lefts: [Cross; 54],
     count: usize,
 }
 
 impl Model for Waiting {
     ghost Value = { List Part };
 
-    ghost view = { λ w. reverse (take w.count w.parts) };
+    ghost view = { λ w. stacked w.pieces w.lefts w.count };
 
-    ghost invariant = { λ w. (w.count ≤ 54) × (length w.parts ≡ 54) };
+    ghost invariant = { λ w. (w.count ≤ 54) × (length w.pieces ≡ 108) × (length w.lefts ≡ 54) };
 }
 
 impl Waiting {
@@ -36,7 +35,8 @@ impl Waiting {
         ensures { result ≡ [] }
     {
         Waiting {
-            parts: [NOWHERE; 54],
+            pieces: [0.0; 108],
+            lefts: [NOWHERE; 54],
             count: 0,
         }
     }
@@ -51,8 +51,11 @@ impl Waiting {
         requires { length self.old < 54 }
         ensures { self.new ≡ p ∷ self.old }
     {
-        self.parts[self.count] = p;
-        self.count += 1;
+        let at = self.count;
+        self.pieces[2 * at] = p.piece.z0;
+        self.pieces[2 * at + 1] = p.piece.z1;
+        self.lefts[at] = p.left;
+        self.count = at + 1;
     }
 
     pub fn pop(&mut self) -> Option<Part>
@@ -61,8 +64,16 @@ impl Waiting {
         if self.count == 0 {
             return None;
         }
-        self.count -= 1;
-        Some(self.parts[self.count])
+        let at = self.count - 1;
+        self.count = at;
+        let piece = Piece {
+            z0: self.pieces[2 * at],
+            z1: self.pieces[2 * at + 1],
+        };
+        Some(Part {
+            piece,
+            left: self.lefts[at],
+        })
     }
 
     // Both halves of p wait, the left one first, so that the right one is taken next.
