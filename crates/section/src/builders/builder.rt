@@ -11,7 +11,8 @@ use crate::Refusal;
 use crate::profile::{Vertex, vertex_at};
 use crate::refusals::{any_below_axis, list_refusal};
 
-// The last vertex that is kept, (0, 0) while there is none, and how many are.
+// The last vertex that is kept, (0, 0) while there is none, and how many are. The count says whether there is a last:
+// an Option of it would have to be unwrapped at each closing.
 #[derive(Clone, Copy)]
 pub struct Run {
     pub last: Vertex,

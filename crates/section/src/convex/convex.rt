@@ -186,7 +186,8 @@ fn crosses_edge(s: &[f64], j: usize, a: Vertex, b: Vertex, across: f64) -> bool
     proper_cross(a, b, vertex_at(s, j), end_at(s, j), across)
 }
 
-// The search stops at the first proper crossing. Where an edge of the section ends the next one starts.
+// The search stops at the first proper crossing: two nested loops, left by a label, as 01 names it. Where an edge of
+// the section ends the next one starts.
 fn any_cross(c: &[f64], s: &[f64]) -> bool
     requires { 3 ≤ count s.now }
     ensures { result ≡ any_cross c.now s.now }

@@ -35,6 +35,7 @@ pub fn any_beyond_limit(l: &[f64]) -> bool
     any_number(l, |x| !(arith::abs(x) <= 1048576.0))
 }
 
+// This and the next differ in the test alone; one over both would hand a closure on thrice.
 fn not_finite_in(a: &[f64], b: &[f64], c: &[f64]) -> bool
     ensures { result ≡ any_of refusals.not_finite (a.now ++ (b.now ++ c.now)) }
 {

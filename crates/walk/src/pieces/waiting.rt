@@ -14,7 +14,7 @@ const NOWHERE: Cross = Cross {
     span: Span { lo: 0.0, hi: 0.0 },
 };
 
-// Start and end of each piece in turn, and what is known at each left end.
+// Start and end of each piece in turn, a flat array as 01 names it, and what is known at each left end.
 #[derive(Drop)]
 pub struct Waiting {
     pieces: [f64; 108],
