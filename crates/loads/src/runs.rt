@@ -1,6 +1,6 @@
 // The vertices and the spheres, record behind record. Each function hands back the state that it
 // ends with.
-ghost use Rattle.std.specs.Prelude.{◌≡◌, ◌+◌, ◌*◌, ◌≤◌, ◌<◌, length};
+ghost use Rattle.std.specs.Prelude.{◌≡◌, ◌+◌, ◌*◌, ◌≤◌, ◌<◌};
 ghost use Rattle.loads.specs.Load.{vertex_record, sphere_record, sphere_next, load_vertices, load_spheres};
 ghost use Rattle.loads.specs.Xorshift.{state_after};
 ghost use Rattle.loads.specs.Steps.{Drawn};
@@ -9,8 +9,8 @@ use super::draws::{coordinate_bits, radius_bits, xorshift};
 use super::fields::put_record;
 use store::Kind;
 
-fn put_vertex(space: &mut [u8], i: usize, state: u64) -> u64
-    requires { (i < 256) × (length space.old ≡ 20480) }
+fn put_vertex(space: &mut [u8; 20480], i: usize, state: u64) -> u64
+    requires { i < 256 }
     ensures { let at = 40 + i * 40 in
         Drawn space.old at (vertex_record i state) space.new (state_after state 2) result }
 {
@@ -30,8 +30,8 @@ fn put_vertex(space: &mut [u8], i: usize, state: u64) -> u64
 }
 
 // The first n of them from the seed on.
-pub fn put_vertices(space: &mut [u8], seed: u64, n: usize) -> u64
-    requires { (n ≤ 256) × (length space.old ≡ 20480) }
+pub fn put_vertices(space: &mut [u8; 20480], seed: u64, n: usize) -> u64
+    requires { n ≤ 256 }
     ensures { Drawn space.old 40 (load_vertices seed n) space.new (state_after seed (n * 2)) result }
 {
     let mut state = seed;
@@ -54,8 +54,8 @@ fn sphere_next(n: usize, j: usize) -> u32
 }
 
 // Sphere j behind n vertices.
-fn put_sphere(space: &mut [u8], n: usize, j: usize, state: u64) -> u64
-    requires { (n ≤ 256) × (j < 32) × (length space.old ≡ 20480) }
+fn put_sphere(space: &mut [u8; 20480], n: usize, j: usize, state: u64) -> u64
+    requires { (n ≤ 256) × (j < 32) }
     ensures { let at = n * 40 + 40 + j * 40 in
         Drawn space.old at (sphere_record n j state) space.new (state_after state 4) result }
 {
@@ -78,8 +78,8 @@ fn put_sphere(space: &mut [u8], n: usize, j: usize, state: u64) -> u64
 }
 
 // All 32, from the state behind the vertices on.
-pub fn put_spheres(space: &mut [u8], state0: u64, n: usize) -> u64
-    requires { (n ≤ 256) × (length space.old ≡ 20480) }
+pub fn put_spheres(space: &mut [u8; 20480], state0: u64, n: usize) -> u64
+    requires { n ≤ 256 }
     ensures { let at = n * 40 + 40 in
         Drawn space.old at (load_spheres state0 n 32) space.new (state_after state0 128) result }
 {

@@ -1,5 +1,5 @@
 // Writing a load: 20 and 21, then record 0, the vertices, the spheres.
-ghost use Rattle.std.specs.Prelude.{◌≡◌, ◌≤◌, length};
+ghost use Rattle.std.specs.Prelude.{◌≡◌, ◌≤◌};
 ghost use Rattle.section.specs.profile.Numbers.{refused_by};
 ghost use Rattle.section.specs.profile.Refusals.{refusal};
 ghost use Rattle.loads.specs.Load.{load_tests, load_answer, LoadWritten};
@@ -28,8 +28,8 @@ fn load_refusal(seed: u64, vertices: u64) -> Result<(), Refusal>
 }
 
 // How many bytes the store of n vertices has, at the front of the space.
-fn put_load(space: &mut [u8], seed: u64, n: usize) -> usize
-    requires { (n ≤ 256) × (length space.old ≡ 20480) }
+fn put_load(space: &mut [u8; 20480], seed: u64, n: usize) -> usize
+    requires { n ≤ 256 }
     ensures { Prints (load_specs.load seed n) space.old space.new result }
 {
     put_record(space, 0, 1, Kind::Start, 0, 0, 0, 0);

@@ -1,5 +1,5 @@
 // An edit of a store that lies at the front of a lent space: 12, the store's own numbers, 24, 22, 23, the outcome's.
-ghost use Rattle.std.specs.Prelude.{◌≡◌, length};
+ghost use Rattle.std.specs.Prelude.{◌≡◌};
 ghost use Rattle.store.specs.Answers.{Accepted};
 ghost use Rattle.store.specs.edits.Edits.{space_answer, Edited};
 ghost use Rattle.store.specs.declared.edits.shapes.Place.TheVariants.{Record, Add};
@@ -10,8 +10,14 @@ use crate::edits::{
 };
 use section::Refusal;
 
-fn replace(space: &mut [u8], n: usize, role: Role, k: u32, bytes: &[u8]) -> Result<usize, Refusal>
-    requires { (space_answer space.old n ≡ Accepted) × (length bytes.now ≡ 40) }
+fn replace(
+    space: &mut [u8],
+    n: usize,
+    role: Role,
+    k: u32,
+    bytes: &[u8; 40],
+) -> Result<usize, Refusal>
+    requires { space_answer space.old n ≡ Accepted }
     ensures { Edited space.old n role (Record k) bytes.now result space.new }
 {
     let mut order = [0u32; 512];
@@ -25,8 +31,8 @@ fn replace(space: &mut [u8], n: usize, role: Role, k: u32, bytes: &[u8]) -> Resu
     try_replace(space, n, k, bytes)
 }
 
-fn add(space: &mut [u8], n: usize, role: Role, bytes: &[u8]) -> Result<usize, Refusal>
-    requires { (space_answer space.old n ≡ Accepted) × (length bytes.now ≡ 40) }
+fn add(space: &mut [u8], n: usize, role: Role, bytes: &[u8; 40]) -> Result<usize, Refusal>
+    requires { space_answer space.old n ≡ Accepted }
     ensures { Edited space.old n role Add bytes.now result space.new }
 {
     let mut order = [0u32; 512];

@@ -19,8 +19,13 @@ fn keep(space: &mut [u8], trial: &[u8], size: usize) -> Result<usize, Refusal>
 }
 
 // The bytes in the place of record k.
-pub fn try_replace(space: &mut [u8], size: usize, k: u32, bytes: &[u8]) -> Result<usize, Refusal>
-    requires { (length space.old ≡ 20480) × (length bytes.now ≡ 40) × (k < 512) }
+pub fn try_replace(
+    space: &mut [u8],
+    size: usize,
+    k: u32,
+    bytes: &[u8; 40],
+) -> Result<usize, Refusal>
+    requires { (length space.old ≡ 20480) × (k < 512) }
     ensures { let s = space.old in
         Tried s (sets s (k * 40) bytes.now) size result space.new }
 {
@@ -31,8 +36,7 @@ pub fn try_replace(space: &mut [u8], size: usize, k: u32, bytes: &[u8]) -> Resul
 }
 
 // The 40 bytes with next 0, whatever next they have.
-fn ending(bytes: &[u8]) -> [u8; 40]
-    requires { length bytes.now ≡ 40 }
+fn ending(bytes: &[u8; 40]) -> [u8; 40]
     ensures { result ≡ edits_specs.ending bytes.now }
 {
     let mut new = [0u8; 40];
@@ -46,9 +50,9 @@ pub fn try_add(
     size: usize,
     m: usize,
     t: u32,
-    bytes: &[u8],
+    bytes: &[u8; 40],
 ) -> Result<usize, Refusal>
-    requires { (length space.old ≡ 20480) × (length bytes.now ≡ 40) × (m < 512) × (t < 512) }
+    requires { (length space.old ≡ 20480) × (m < 512) × (t < 512) }
     ensures { let s = space.old in
         Tried s (appended s m t bytes.now) size result space.new }
 {

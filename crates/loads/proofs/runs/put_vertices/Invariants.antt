@@ -1,7 +1,5 @@
 -- `loads::runs::put_vertices`. Two states go into a vertex in a turn.
 use Prim.Native.Nat.{◌*◌}
-use mathlib.Core.Path.{◌≡◌}
-use lib.ListN.{length}
 use Rattle.loads.specs.Xorshift.{state_after}
 use Rattle.loads.specs.Load.{load_vertices}
 use Rattle.loads.specs.Steps.{Drawn}
@@ -9,5 +7,4 @@ use Rattle.loads.proofs.runs.put_vertices.Given as goal
 
 abbrev pub invariant-loop-i : goal.invariant-loop-i
 invariant-loop-i l =
-    (length l.space ≡ length l.initial.space)
-    × Drawn l.initial.space 40 (load_vertices l.seed l.i) l.space (state_after l.seed (l.i * 2)) l.state
+    Drawn l.initial.space 40 (load_vertices l.seed l.i) l.space (state_after l.seed (l.i * 2)) l.state

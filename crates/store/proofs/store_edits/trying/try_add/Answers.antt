@@ -8,5 +8,5 @@ use Rattle.store.proofs.store_edits.trying.try_add.Goals as goal
 pub returns : goal.returns
 returns c =
     added_tried c.put.ensures (omega (arith, c.requires.0)) c.args.bytes.now c.args.m c.args.t
-    c.ending-new.ensures c.put-2.ensures (c.to_le_bytes-link.ensures ∙ link_written _ c.requires.2)
+    c.ending-new.ensures c.put-2.ensures (c.to_le_bytes-link.ensures ∙ link_written _ c.requires.1)
     c.put-3.ensures c.keep.ensures
