@@ -8,8 +8,6 @@ use Rattle.section.specs.declared.profile.shapes.Aabb.{Aabb}
 use Rattle.section.specs.declared.profile.shapes.CollisionHit.{CollisionHit}
 use Rattle.section.specs.declared.profile.shapes.Edge.{Edge}
 use Rattle.section.specs.declared.profile.shapes.Vertex.{Vertex}
-use Rattle.section.specs.segments.Legs.{Legs}
-use Rattle.section.specs.declared.segments.shapes.Near.{Near}
 use Rattle.section.specs.points.Overlap.{result_of}
 use Rattle.section.specs.ranges.Ranges.{Has, ranges_of, sides_of}
 use Rattle.section.specs.ranges.Search.{FoundFrom}
@@ -37,11 +35,10 @@ pub record HeldBeside (x : Aabb) (e : Edge) : Type 0 where
   pub r0 : T (fits binary64 x.r0)
   pub r1 : T (fits binary64 x.r1)
 
--- what is known on the way along a section: where the box's sides lie, where the edge does, the legs of the best
-pub record Along (x : Aabb) (sides : Sides) (e : Edge) (g : Sides) (best : Near) : Type 0 where
+-- what is known on the way along a section: where the box's sides lie, and where the edge does
+pub record Along (x : Aabb) (sides : Sides) (e : Edge) (g : Sides) : Type 0 where
   pub box_sides : sides ≡ sides_of x
   pub edge_ranges : g ≡ ranges_of e.a e.b
-  pub legs : Legs best
 
 -- an edge's clipped middle lies well inside
 abbrev pub any_through : List Float → Aabb → Bool

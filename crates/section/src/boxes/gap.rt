@@ -4,7 +4,7 @@ ghost use Rattle.std.specs.Prelude.{◌≡◌, true, false, ◌<◌, ◌≤◌};
 ghost use Rattle.arith.specs.F64.{◌≺◌, 𝟘};
 ghost use Rattle.section.specs.profile.Vertices as profile;
 ghost use Rattle.section.specs.profile.Vertices.{count, vertex_at, end_at, edge_at, nearer, nearest_of};
-ghost use Rattle.section.specs.segments.Legs.{Legs, Nearest};
+ghost use Rattle.section.specs.segments.Legs.{Nearest};
 ghost use Rattle.section.specs.segments.Segments.{along, segments};
 ghost use Rattle.section.specs.ranges.Ranges.{gap_between, range_of, sides_of};
 ghost use Rattle.section.specs.boxes.Boxes.{corners, edge_box, box_gap};
@@ -21,7 +21,7 @@ use crate::segments::{
 
 // The box's side from c to d may be nearer to the edge. The edge lies in g, the side in hz and hr.
 fn nearer_side(edge: Edge, g: Sides, c: Vertex, d: Vertex, hz: Range, hr: Range, best: Near) -> Near
-    requires { Ranged edge g c d hz hr × Legs best }
+    requires { Ranged edge g c d hz hr }
     ensures { Nearest best (segments edge c d) result }
 {
     let z = gap_between(g.z, hz);
@@ -34,8 +34,8 @@ fn nearer_side(edge: Edge, g: Sides, c: Vertex, d: Vertex, hz: Range, hr: Range,
 
 // A side of the box may be nearer to the edge.
 fn nearest_side(edge: Edge, x: Aabb, sides: Sides, g: Sides, best: Near) -> Near
-    requires { Along x sides edge g best × HeldBeside x edge }
-    ensures { (result.hit ≡ nearest_of (λ k. segments edge (vertex_at (corners x) k) (end_at (corners x) k)) best.hit 4) × Legs result }
+    requires { Along x sides edge g × HeldBeside x edge }
+    ensures { result.hit ≡ nearest_of (λ k. segments edge (vertex_at (corners x) k) (end_at (corners x) k)) best.hit 4 }
 {
     let c00 = Vertex { z: x.z0, r: x.r0 };
     let c10 = Vertex { z: x.z1, r: x.r0 };
@@ -55,7 +55,7 @@ fn nearest_side(edge: Edge, x: Aabb, sides: Sides, g: Sides, best: Near) -> Near
 
 // The box holds the edge from t on.
 fn entered(edge: Edge, t: f64) -> Near
-    ensures { (result.hit ≡ profile.hit 𝟘 (profile.on edge.number (along edge.a edge.b t))) × Legs result }
+    ensures { result.hit ≡ profile.hit 𝟘 (profile.on edge.number (along edge.a edge.b t)) }
 {
     legless(CollisionHit {
         distance: 0.0,
@@ -65,7 +65,7 @@ fn entered(edge: Edge, t: f64) -> Near
 
 // The edge may be nearer to the box.
 fn segment_aabb_distance(edge: Edge, x: Aabb, sides: Sides, g: Sides, best: Near) -> Near
-    requires { Along x sides edge g best }
+    requires { Along x sides edge g }
     ensures { Nearest best (edge_box x edge) result }
 {
     if let Some(c) = clip_segment(edge.a, edge.b, x) {
@@ -90,7 +90,7 @@ fn passed_along_z(edge: Edge, x: Aabb, z: f64, best: Near) -> bool
 
 // The same, as both axes tell.
 fn passed_over(edge: Edge, x: Aabb, sides: Sides, best: Near) -> bool
-    requires { (sides ≡ sides_of x) × Legs best }
+    requires { sides ≡ sides_of x }
     ensures { result ≡ true → ((edge_box x edge).distance ≺ best.hit.distance) ≡ false }
 {
     let a = edge.a;
@@ -108,7 +108,7 @@ fn passed_over(edge: Edge, x: Aabb, sides: Sides, best: Near) -> bool
 
 // Edge k may be nearer to the box.
 fn gap_at(s: &[f64], x: Aabb, sides: Sides, k: usize, best: Near) -> Near
-    requires { (k < count s.now) × (sides ≡ sides_of x) × Legs best }
+    requires { (k < count s.now) × (sides ≡ sides_of x) }
     ensures { Nearest best (edge_box x (edge_at s.now k)) result }
 {
     let edge = edge_at(s, k);
@@ -118,8 +118,8 @@ fn gap_at(s: &[f64], x: Aabb, sides: Sides, k: usize, best: Near) -> Near
 
 // Edges from this one up to that one may be nearer to the box. The best stays where it is while edges are passed over.
 fn gap_from(s: &[f64], x: Aabb, sides: Sides, from: usize, to: usize, start: Near) -> Near
-    requires { (from ≤ to) × (to ≤ count s.now) × (sides ≡ sides_of x) × Legs start }
-    ensures { GapFrom s.now x from to start.hit result.hit × Legs result }
+    requires { (from ≤ to) × (to ≤ count s.now) × (sides ≡ sides_of x) }
+    ensures { GapFrom s.now x from to start.hit result.hit }
 {
     let mut best = start;
     for k in from..to {
@@ -133,8 +133,8 @@ fn gap_from(s: &[f64], x: Aabb, sides: Sides, from: usize, to: usize, start: Nea
 
 // Edges up to this one may be nearer to the box. Edge 0 is often tried first, and has none before it.
 fn gap_before(s: &[f64], x: Aabb, sides: Sides, k: usize, start: Near) -> Near
-    requires { (k ≤ count s.now) × (sides ≡ sides_of x) × Legs start }
-    ensures { GapFrom s.now x 0 k start.hit result.hit × Legs result }
+    requires { (k ≤ count s.now) × (sides ≡ sides_of x) }
+    ensures { GapFrom s.now x 0 k start.hit result.hit }
 {
     if k > 0 {
         return gap_from(s, x, sides, 0, k, start);
@@ -146,7 +146,7 @@ fn gap_before(s: &[f64], x: Aabb, sides: Sides, k: usize, start: Near) -> Near
 // and not by a call, which would be 4 % of a box beside 4 vertices.
 fn first_gap(edge: Edge, x: Aabb, sides: Sides, none: CollisionHit) -> Near
     requires { sides ≡ sides_of x }
-    ensures { (result.hit ≡ nearer none (edge_box x edge)) × Legs result }
+    ensures { result.hit ≡ nearer none (edge_box x edge) }
 {
     let g = ranges_of(edge.a, edge.b);
     let best = legless(none);
