@@ -3,4 +3,4 @@ use Rattle.section.specs.boxes.Steps.{GapFrom}
 use Rattle.section.proofs.boxes.gap.gap_from.Given as goal
 
 abbrev pub invariant-loop-k : goal.invariant-loop-k
-invariant-loop-k l = GapFrom l.s l.x l.from l.k l.initial.best.hit l.best.hit
+invariant-loop-k l = GapFrom l.s l.x.aabb l.from l.k l.initial.best.hit l.best.hit

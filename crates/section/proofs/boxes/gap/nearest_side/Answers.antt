@@ -5,19 +5,19 @@ use Rattle.section.proofs.boxes.gap.nearest_side.Goals as goal
 
 pub nearer_side-first-requires : goal.nearer_side-first-requires
 nearer_side-first-requires c =
-    let known = c.requires in low_side _ _ known.1 known.0.box_sides known.0.edge_ranges
+    low_side _ _ c.requires.1 c.args.sided.known c.requires.0
 
 pub nearer_side-second-requires : goal.nearer_side-second-requires
 nearer_side-second-requires c =
-    let known = c.requires in last_side _ _ known.1 known.0.box_sides known.0.edge_ranges
+    last_side _ _ c.requires.1 c.args.sided.known c.requires.0
 
 pub nearer_side-third-requires : goal.nearer_side-third-requires
 nearer_side-third-requires c =
-    let known = c.requires in high_side _ _ known.1 known.0.box_sides known.0.edge_ranges
+    high_side _ _ c.requires.1 c.args.sided.known c.requires.0
 
 pub nearer_side-requires : goal.nearer_side-requires
 nearer_side-requires c =
-    let known = c.requires in first_side _ _ known.1 known.0.box_sides known.0.edge_ranges
+    first_side _ _ c.requires.1 c.args.sided.known c.requires.0
 
 pub returns : goal.returns
 unfolding upto

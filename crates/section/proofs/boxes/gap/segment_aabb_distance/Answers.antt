@@ -15,4 +15,4 @@ unfolding edge_box
 returns c =
     rw (← c.clip_segment.ensures, c.in_default.is)
     (c.nearest_side.ensures
-    ∙ nearest_from _ (λ k. segments_held _ _ _) _ _ c.well_formed.1.1.1.1.0.1.1.0.1.1.0.1 4)
+    ∙ nearest_from _ (λ k. segments_held _ _ _) _ _ c.well_formed.1.1.1.0.1.1.0.1.1.0.1 4)
