@@ -15,7 +15,7 @@ use Rattle.section.specs.declared.profile.shapes.Edge.{Edge}
 use Rattle.section.specs.declared.profile.shapes.Vertex.{Vertex}
 use Rattle.section.proofs.profile.Steps.{pick}
 use Rattle.section.specs.segments.Clip.{clip}
-use Rattle.section.specs.segments.Legs.{Hopeless}
+use Rattle.section.specs.segments.Hopeless.{Hopeless}
 use Rattle.section.specs.segments.Segments.{segments}
 use Rattle.section.specs.ranges.Ranges.{gap_between, Has, range, ranges_of, sides_of}
 use Rattle.section.specs.declared.ranges.shapes.Range.{Range}

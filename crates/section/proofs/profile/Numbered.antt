@@ -1,5 +1,4 @@
 -- No refusal has the number 0; a refusal that is handed on stays what it is.
-use Prim.Native.Nat.{ℕ}
 use native.Mathlib.Omega.{arith}
 use mathlib.Core.Path.{◌≡◌, ap}
 use Rattle.std.specs.Prelude.{Result, Ok, Err, IsErr, IsErrAnd}

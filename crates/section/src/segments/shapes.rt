@@ -1,4 +1,6 @@
 // What is found on the way to a distance: a clipped part, two places, a hit with its legs.
+ghost use Rattle.section.specs.segments.Hopeless.{Hopeless};
+
 use crate::profile::CollisionHit;
 
 // The part of a segment from t0 to t1 of its length.
@@ -21,4 +23,5 @@ pub struct Near {
     pub hit: CollisionHit,
     pub z: f64,
     pub r: f64,
+    ghost legs: { Hopeless z r hit.distance },
 }

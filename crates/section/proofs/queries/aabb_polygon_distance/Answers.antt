@@ -1,7 +1,7 @@
 -- `section::queries::aabb_polygon_distance` meets its contract: the number or the hit, and demand 1 of it.
 use mathlib.Core.List.{[], ◌++◌}
-use mathlib.Core.Path.{sym, ◌∙◌}
-use Rattle.section.specs.profile.Refusals.{axis_tests, radius_tests, bounds_tests}
+use mathlib.Core.Path.{sym}
+use Rattle.section.specs.profile.Refusals.{axis_tests, bounds_tests}
 use Rattle.section.proofs.profile.Refusals.Ordered.{no_settings}
 use Rattle.section.proofs.profile.Refusals.Passed.{section_long}
 use Rattle.section.proofs.profile.Replies.{answered, refused_answer, value_answer}

@@ -1,8 +1,6 @@
 -- `section::queries::signed_distance` meets its contract: the number or the hit, and demand 1 of it.
-use mathlib.Core.List.{[], ◌++◌}
-use mathlib.Core.Path.{sym, ◌∙◌}
-use Rattle.section.specs.profile.Refusals.{axis_tests, radius_tests, bounds_tests}
-use Rattle.section.proofs.profile.Refusals.Ordered.{no_settings}
+use mathlib.Core.Path.{sym}
+use Rattle.section.specs.profile.Refusals.{axis_tests}
 use Rattle.section.proofs.profile.Refusals.Passed.{section_long}
 use Rattle.section.proofs.profile.Replies.{answered, refused_answer, value_answer}
 use Rattle.section.specs.Answers.{point_answer}

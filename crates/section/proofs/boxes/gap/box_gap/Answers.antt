@@ -14,7 +14,7 @@ returns c =
       c.vertex_at.ensures,
       c.infinity.ensures,
     ))
-    (rw c.edge_at.ensures at c.first_gap-first.ensures.0)
+    (rw c.edge_at.ensures at c.first_gap-first.ensures)
     c.start_over-start.ensures
-    (rw c.legless.ensures.0 at c.gap_before-before.ensures.0)
-    c.nearer_near-best.ensures.hit c.gap_from-last.ensures.0
+    (rw c.legless.ensures at c.gap_before-before.ensures)
+    c.nearer_near-best.ensures c.gap_from-last.ensures

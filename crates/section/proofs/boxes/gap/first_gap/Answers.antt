@@ -7,17 +7,13 @@ use Rattle.section.proofs.boxes.gap.first_gap.Goals as goal
 
 pub returns-in-Some : goal.returns-in-Some
 unfolding edge_box
-returns-in-Some c = (
-  rw (← c.clip_segment.ensures, c.in-Some.is)
-      (rw (c.legless-best.ensures.0, c.entered.ensures.0) at c.nearer_near.ensures.hit),
-  c.nearer_near.ensures.legs,
-)
+returns-in-Some c =
+    rw (← c.clip_segment.ensures, c.in-Some.is)
+    (rw (c.legless-best.ensures, c.entered.ensures) at c.nearer_near.ensures)
 
 pub returns : goal.returns
 unfolding edge_box
-returns c = (
-  rw (← c.clip_segment.ensures, c.in_default.is)
-      (rw c.legless-best.ensures.0 at c.nearest_side.ensures.0
-      ∙ nearest_from _ (λ k. segments_held _ _ _) _ _ c.well_formed.1.1.1.0.1.1.0.1 4),
-  c.nearest_side.ensures.1,
-)
+returns c =
+    rw (← c.clip_segment.ensures, c.in_default.is)
+    (rw c.legless-best.ensures at c.nearest_side.ensures
+    ∙ nearest_from _ (λ k. segments_held _ _ _) _ _ c.well_formed.1.1.0.1.1.0.1 4)

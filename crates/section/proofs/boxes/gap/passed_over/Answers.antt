@@ -9,7 +9,6 @@ pub hopeless-requires : goal.hopeless-requires
 hopeless-requires c = (
   rw c.gap_between-z.ensures (gap_plus _ _),
   rw c.gap_between-r.ensures (gap_plus _ _),
-  c.requires.1,
 )
 
 pub returns-then-hopeless : goal.returns-then-hopeless
@@ -18,12 +17,12 @@ returns-then-hopeless c =
     (record {
       a_z = true→T c.well_formed.0.1.1.0.1.1.0.1;
       a_r = true→T c.well_formed.0.1.1.0.1.1.1.0.1;
-      z0 = true→T c.well_formed.1.0.1.1.0.1;
-      z1 = true→T c.well_formed.1.0.1.1.1.0.1;
-      r0 = true→T c.well_formed.1.0.1.1.1.1.0.1;
-      r1 = true→T c.well_formed.1.0.1.1.1.1.1.0.1;
+      z0 = true→T c.well_formed.1.0.1.1.0.1.1.0.1;
+      z1 = true→T c.well_formed.1.0.1.1.0.1.1.1.0.1;
+      r0 = true→T c.well_formed.1.0.1.1.0.1.1.1.1.0.1;
+      r1 = true→T c.well_formed.1.0.1.1.0.1.1.1.1.1.0.1;
     })
-    c.requires.0 refl _
+    c.args.x.known refl _
     (rw (
       c.gap_between-z.ensures,
       c.range_of.ensures,

@@ -7,17 +7,12 @@ use Rattle.section.proofs.boxes.gap.segment_aabb_distance.Goals as goal
 
 pub returns-in-Some : goal.returns-in-Some
 unfolding edge_box
-returns-in-Some c = record {
-  hit = rw (← c.clip_segment.ensures, c.in-Some.is)
-      (rw c.entered.ensures.0 at c.nearer_near.ensures.hit);
-  legs = c.nearer_near.ensures.legs;
-}
+returns-in-Some c =
+    rw (← c.clip_segment.ensures, c.in-Some.is) (rw c.entered.ensures at c.nearer_near.ensures)
 
 pub returns : goal.returns
 unfolding edge_box
-returns c = record {
-  hit = rw (← c.clip_segment.ensures, c.in_default.is)
-      (c.nearest_side.ensures.0
-      ∙ nearest_from _ (λ k. segments_held _ _ _) _ _ c.well_formed.1.1.1.1.0.1.1.0.1.1.0.1 4);
-  legs = c.nearest_side.ensures.1;
-}
+returns c =
+    rw (← c.clip_segment.ensures, c.in_default.is)
+    (c.nearest_side.ensures
+    ∙ nearest_from _ (λ k. segments_held _ _ _) _ _ c.well_formed.1.1.1.0.1.1.0.1.1.0.1 4)

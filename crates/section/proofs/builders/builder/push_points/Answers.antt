@@ -2,7 +2,6 @@
 use native.Mathlib.Omega.{arith}
 use mathlib.Core.Path.{◌≡◌, refl}
 use lib.Seq.{take-nil}
-use borrow.Author.Rules.{rules}
 use Rattle.section.specs.profile.Vertices.{count, upto}
 use Rattle.section.specs.builders.Builder.{kept_points, filled}
 use Rattle.section.proofs.builders.Builders.Points.{count_most, same_long, run_turned, space_turned}

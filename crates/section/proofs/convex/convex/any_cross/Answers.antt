@@ -2,7 +2,6 @@
 -- edge below j in row i.
 use native.Mathlib.Omega.{arith}
 use mathlib.Core.Path.{refl, sym, ap, ◌∙◌}
-use borrow.Author.Rules.{rules}
 use Rattle.section.specs.profile.Vertices.{any}
 use Rattle.section.specs.convex.Convex.{row_crossing, any_cross}
 use Rattle.section.proofs.profile.Fold.{any_more, any_end, any_at}

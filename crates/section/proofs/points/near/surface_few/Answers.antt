@@ -7,12 +7,9 @@ use Rattle.section.proofs.points.near.surface_few.Goals as goal
 
 pub loop-k-init : goal.loop-k-init
 unfolding upto
-loop-k-init c = (refl, c.legless-best.ensures.1)
+loop-k-init c = refl
 
 pub loop-k-preserved : goal.loop-k-preserved
-loop-k-preserved c = (
-  upto_more _ _ _ c.loop-k.invariant.0
-      (stepped _ _ _ _ _ c.edge_at-edge.ensures c.edge_is_surface.ensures
-      c.surface_edge-best.ensures.0),
-  c.surface_edge-best.ensures.1,
-)
+loop-k-preserved c =
+    upto_more _ _ _ c.loop-k.invariant
+    (stepped _ _ _ _ _ c.edge_at-edge.ensures c.edge_is_surface.ensures c.surface_edge-best.ensures)
