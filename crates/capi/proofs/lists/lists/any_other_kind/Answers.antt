@@ -3,7 +3,6 @@ use native.Mathlib.Nat.{le_refl}
 use mathlib.Core.Path.{ap, sym, ◌∙◌}
 use lib.ListN.{length}
 use lib.Seq.{take-length}
-use borrow.Author.Rules.{rules}
 use Rattle.section.specs.profile.Refusals.{any_of}
 use Rattle.bodies.proofs.assemblies.Front.{found_later, found_here, found_never}
 use Rattle.capi.specs.lists.Lists.{other_kind}

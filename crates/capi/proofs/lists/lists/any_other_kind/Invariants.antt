@@ -1,5 +1,4 @@
 -- `capi::lists::lists::any_other_kind` meets its contract: what is not yet tried decides for the whole list.
-use Prim.Native.Nat.{◌≤◌, ◌-◌}
 use mathlib.Core.Path.{◌≡◌}
 use lib.ListN.{length, drop, take}
 use Rattle.section.specs.profile.Refusals.{any_of}

@@ -1,10 +1,9 @@
 -- `capi::lists::lists::bodies_of` meets its contract: the first i bodies are read.
 use native.Mathlib.Omega.{arith}
 use Prim.Native.Nat.{ℕ}
-use native.Mathlib.Nat.{le_antisymm, le_of_eq, le_trans, lt_of_lt_of_le}
+use native.Mathlib.Nat.{le_of_eq, le_trans, lt_of_lt_of_le}
 use mathlib.Core.Path.{◌≡◌, ap, sym, ◌∙◌}
 use lib.ListN.{take, length-set}
-use borrow.Author.Rules.{rules}
 use Rattle.capi.specs.lists.Lists.{bodies_of}
 use Rattle.capi.proofs.lists.BodiesRead.{read_more}
 use Rattle.capi.proofs.lists.lists.bodies_of.Goals as goal

@@ -1,5 +1,5 @@
 -- `capi::lists::lists::bodies_of` meets its contract: the first i bodies are read.
-use Prim.Native.Nat.{◌≤◌, ◌-◌, ◌*◌}
+use Prim.Native.Nat.{◌≤◌, ◌*◌}
 use mathlib.Core.Path.{◌≡◌}
 use lib.ListN.{length, take}
 use Rattle.capi.specs.lists.Lists.{bodies_of}
