@@ -8,7 +8,7 @@ use crate::lists::{bodies_of, front_of, lists_refusal};
 use bodies::Verdict;
 use section::Refusal;
 
-// The lists' own numbers come before all else.
+// What is turned down of the lists comes before all else.
 fn any_hit_of(
     section: &[f64],
     kinds: &[u32],

@@ -14,7 +14,7 @@ use bodies::{Report, Travel};
 use section::Refusal;
 use walk::Settings;
 
-// The body's own numbers come before all else.
+// What is turned down of the body's kind and numbers comes before all else.
 fn move_of(
     section: &[f64],
     kind: u32,

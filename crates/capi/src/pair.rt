@@ -10,7 +10,7 @@ use crate::lists::{body_at, one_body_refusal};
 use bodies::Won;
 use section::Refusal;
 
-// The body's own numbers come before all else.
+// What is turned down of the body's kind and numbers comes before all else.
 fn pair_of(chuck: &[f64], work: &[f64], kind: u32, numbers: &[f64]) -> Result<Won, Refusal>
     ensures { let c = chuck.now in let w = work.now in let n = numbers.now in
         Answers (told result) (pair_of c w kind n) (PairPromised c w (body_at kind n 0)) }

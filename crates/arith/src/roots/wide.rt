@@ -121,7 +121,7 @@ impl Parts {
     // m * 2^54
     pub fn widened(m: u64) -> Parts
         requires { m < 2 ^ 54 }
-        ensures { total result ≡ m * 2 ^ 54 }
+        ensures { PartsOf (m * 2 ^ 54) result }
     {
         Parts {
             h: m / 4,

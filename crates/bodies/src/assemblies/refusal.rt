@@ -29,7 +29,7 @@ pub fn before_bodies(section: &[f64], count: usize, clearance: f64) -> Result<()
     body_refusal(section, &given[..], &none, Ok(()), count_refusal(count))
 }
 
-// The own number of the first bad body.
+// What the first bad body is turned down for.
 pub fn bodies_refusal(bodies: &[Body]) -> Result<(), Refusal>
     ensures { refused_by result ≡ refusal (flat_map alone_tests bodies.now) }
 {

@@ -38,7 +38,7 @@ fn steps_refusal(steps: u32) -> Result<(), Refusal>
     Ok(())
 }
 
-// Of section, body, clearance, offsets and settings, then of the steps.
+// Section, body, clearance, offsets and settings are tested first, then the steps.
 pub fn before_placing(
     section: &[f64],
     body: Body,

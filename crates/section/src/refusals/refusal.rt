@@ -187,8 +187,8 @@ fn axis_refusal(s: &[f64], own: Result<(), Refusal>) -> Result<(), Refusal>
     own
 }
 
-// A section of 3 to 256 vertices, a body's numbers and more that are given; then the number of the call's
-// settings, then the section's own, then the body's.
+// A section of 3 to 256 vertices, a body's numbers and more that are given; then what is turned
+// down of the call's settings, then of the section's radii, then of the body.
 pub fn body_refusal(
     s: &[f64],
     numbers: &[f64],

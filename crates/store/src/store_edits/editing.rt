@@ -49,7 +49,7 @@ fn add(space: &mut [u8], n: usize, role: Role, bytes: &[u8; 40]) -> Result<usize
     try_add(space, length_with(n, m), m, t, bytes)
 }
 
-// The store's length afterwards, or the number; refused, no byte changes.
+// The store's length afterwards; refused, no byte changes.
 pub fn edit_store(space: &mut [u8], length: usize, edit: Edit) -> Result<usize, Refusal>
     ensures { Edited space.old length edit.role edit.place edit.bytes result space.new }
 {

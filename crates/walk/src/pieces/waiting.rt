@@ -8,7 +8,7 @@ use super::shapes::{Cross, Part, Piece};
 use crate::bands::{RadialBand, Span};
 use std::marker::Model;
 
-// What is known at a left end before a piece waits there.
+// What stands at a left end before a piece waits there; nothing reads it.
 const NOWHERE: Cross = Cross {
     rho: 0.0,
     span: Span { lo: 0.0, hi: 0.0 },
