@@ -73,8 +73,8 @@
  *            INVALID for a lifted call whose middle is at x = y = 0. They say nothing of the answer, which holds all the same.
  *            bindings/c/flags.c shows them
  * Machine    x86-64, ELF, the System V calling convention
- * Stack      in bytes, whatever is asked: a root or a builder 200, a point or a sphere 1,400, a box or a convex body 2,400, a
- *            cylinder, its verdict, a pair or a move 6,700, an assembly 14,100, reading a store 6,900, editing one 30,000.
+ * Stack      in bytes, whatever is asked: a root or a builder 200, a point or a sphere 1,400, a box or a convex body 2,500, a
+ *            cylinder, its verdict, a pair or a move 7,200, an assembly 14,400, reading a store 6,900, editing one 30,000.
  *            Nothing calls itself. Where a program binds lazily, its first memset or memcpy takes some 3,000 besides
  * Time       grows as boxes times edges. A box, or a cylinder along the spindle, is one box; a cylinder across is up to `most`,
  *            which is 8,192 where a call takes no settings; a convex body is one for each of its edges; a pair measures twice, an

@@ -1,61 +1,49 @@
 // Hypotenuse of two f64, correctly rounded: a guess, an exact test of squares that decides, and a
 // bisection where it does not. Bits are those of a value with no sign.
-ghost use Rattle.std.specs.Prelude.{◌≡◌, ◌+◌, ◌-◌, ◌*◌, ◌/◌, ◌^◌, ◌<◌, ◌≤◌};
+ghost use Rattle.std.specs.Prelude.{◌≡◌, ◌+◌, ◌-◌, ◌*◌, ◌/◌, ◌^◌, ◌<◌, ◌≤◌, IfSome};
 ghost use Rattle.std.specs.Float.{binary64};
-ghost use Rattle.arith.specs.roots.Steps.{FiniteHypotIs, HypotIs, NearestHalf, Operands, Picks};
+ghost use Rattle.std.specs.Int.{from_bool};
+ghost use Rattle.arith.specs.roots.Steps.{FiniteHypotIs, HypotIs, NearestHalf, Operands};
 ghost use Rattle.arith.specs.roots.Steps.{Rounded, Scaled, Significand, Sticky};
 ghost use Rattle.arith.specs.roots.Roots as roots;
 
-use crate::roots::{bisect, guessed, nearest_of_three, square, sum_of_squares, sum_parts};
-use std::num::wrapping_sub_u64;
-
-const T52: u64 = 0x10_0000_0000_0000;
-
-const T53: u64 = 0x20_0000_0000_0000;
-
-const T63: u64 = 0x8000_0000_0000_0000;
-
-const INF: u64 = 0x7ff0_0000_0000_0000;
+use crate::bits::{INF, T52, T53, T63};
+use crate::roots::{Parts, SoughtRoot, Wide, guessed, nearest_of_three};
 
 // The exponent of the bits p: they stand for a multiple of 2^exponent smallest values.
 fn exponent(p: u64) -> u64
     ensures { result ≡ p / 2 ^ 52 - 1 }
 {
-    if p < T52 { 0 } else { p / T52 - 1 }
+    (p / T52).saturating_sub(1)
 }
 
-// 0: 4^d divides (2 * m)^2; 1: it does not
-fn sticky(m: u64, d: u64) -> u64
+// Whether (2 * m)^2 / 4^d has a rest.
+fn sticky(m: u64, d: u64) -> bool
     requires { (m < 2 ^ 53) × (d < 27) }
     ensures { Sticky m d result }
 {
-    let q = square(2 * m);
+    let q = Wide::square(2 * m);
     let low = q.lo >> (2 * d);
-    if low << (2 * d) == q.lo { 0 } else { 1 }
+    low << (2 * d) != q.lo
 }
 
-// The rounded root of mb^2 + ms^2 / 4^d, as a candidate's index; t is 1 where 4^d does not divide
-// (2 * ms)^2.
-fn hypot_significand(mb: u64, ms: u64, d: u64, t: u64) -> u64
-    requires { (0 < mb) × (mb < 2 ^ 53) × (ms < 2 ^ 53) × (d < 27) × (ms ≤ mb * 2 ^ d) × (t < 2) }
+// The rounded root of mb^2 + ms^2 / 4^d, as a candidate's index; t says whether (2 * ms)^2 / 4^d has
+// a rest.
+fn hypot_significand(mb: u64, ms: u64, d: u64, t: bool) -> u64
+    requires { (0 < mb) × (mb < 2 ^ 53) × (ms < 2 ^ 53) × (d < 27) × (ms ≤ mb * 2 ^ d) }
     ensures { let z = (2 * mb) * (2 * mb) + (2 * ms) * (2 * ms) / 2 ^ (2 * d) in
-        Rounded z t (mb - 1) (mb + 2 ^ 52) result }
+        Rounded z (from_bool t) (mb - 1) (mb + 2 ^ 52) result }
 {
-    let z = sum_of_squares(2 * mb, 2 * ms, d);
-    bisect(z, t, mb - 1, mb + 0x10_0000_0000_0000)
+    let z = Wide::sum_of_squares(2 * mb, 2 * ms, d);
+    SoughtRoot { z, more: t }.bisect(mb - 1, mb + T52)
 }
 
-// The rounded half of the root of a^2 + b^2 / 4^d, from any guess g; 0: not decided.
-fn nearest_half(a: u64, b: u64, d: u64, g: u64) -> u64
+// The rounded half of the root of a^2 + b^2 / 4^d, from any guess g, if that decides.
+fn nearest_half(a: u64, b: u64, d: u64, g: u64) -> Option<u64>
     requires { (a < 2 ^ 54) × (b < 2 ^ 54) × (d < 27) × Significand g }
-    ensures { 0 < result → NearestHalf (a * a + b * b / 2 ^ (2 * d)) result }
+    ensures { IfSome result (NearestHalf (a * a + b * b / 2 ^ (2 * d))) }
 {
-    let z = sum_parts(a, b, d);
-    let v = nearest_of_three(z, g);
-    if v < 3 {
-        return g + v - 1;
-    }
-    0
+    nearest_of_three(Parts::sum_of_squares(a, b, d), g)
 }
 
 // The bits of the hypotenuse of two finite values, by bisection.
@@ -76,8 +64,7 @@ fn hypot_searched(big: u64, small: u64) -> u64
     let ms = small - es * T52;
     let t = sticky(ms, d);
     let s = hypot_significand(mb, ms, d, t);
-    let r = eb * T52 + s;
-    if r < INF { r } else { INF }
+    (eb * T52 + s).min(INF)
 }
 
 // m * 2^s: m, or 2 * m where the root lies in big's own binade
@@ -88,44 +75,31 @@ fn scaled(m: u64, s: u64) -> u64
     m << s
 }
 
-// The same of two normal values, by a guess that is tested, n being about the sum of their squares
-// and nb its bits; 0: not decided.
-fn hypot_tested(n: f64, nb: u64, big: u64, small: u64) -> u64
+// The same of two normal values, if a guess that is tested decides, n being about the sum of their
+// squares and nb its bits.
+fn hypot_tested(n: f64, nb: u64, big: u64, small: u64) -> Option<u64>
     requires { (nb < 2 ^ 63) × Operands (2 ^ 52) 2000 big small }
-    ensures { 0 < result → HypotIs big small result }
+    ensures { IfSome result (HypotIs big small) }
 {
     let eb = big / T52;
     let d = eb - small / T52;
     if d > 26 {
-        return big;
+        return Some(big);
     }
     // the exponent that the root is likely to have, and how far it is below the one above big's
     let er = (nb / 2 + 0x1ff8_0000_0000_0000) / T52;
-    let s = wrapping_sub_u64(eb + 1, er);
-    if s < 2 {
-        let aa = scaled(big % T52 + T52, s);
-        let bb = scaled(small % T52 + T52, s);
-        let g = guessed(n, nb / 2);
-        let r = nearest_half(aa, bb, d, g);
-        if r > T52 {
-            if r <= T53 {
-                return (er - 1) * T52 + r;
-            }
-        }
+    let s = (eb + 1).wrapping_sub(er);
+    if s >= 2 {
+        return None;
     }
-    0
-}
-
-fn larger(a: u64, b: u64) -> u64
-    ensures { Picks a b b a result }
-{
-    if a < b { b } else { a }
-}
-
-fn smaller(a: u64, b: u64) -> u64
-    ensures { Picks a b a b result }
-{
-    if a < b { a } else { b }
+    let aa = scaled(big % T52 + T52, s);
+    let bb = scaled(small % T52 + T52, s);
+    let g = guessed(n, nb / 2);
+    let r = nearest_half(aa, bb, d, g)?;
+    if r > T52 && r <= T53 {
+        return Some((er - 1) * T52 + r);
+    }
+    None
 }
 
 // The bits of the hypotenuse of two finite values.
@@ -133,73 +107,52 @@ fn hypot_bits(a: u64, b: u64) -> u64
     requires { (a < 2047 * 2 ^ 52) × (b < 2047 * 2 ^ 52) }
     ensures { HypotIs a b result }
 {
-    let big = larger(a, b);
-    let small = smaller(a, b);
-    hypot_searched(big, small)
+    hypot_searched(a.max(b), a.min(b))
 }
 
-// The hypotenuse of any two values. It is called twice, so that it is compiled apart from the quick
-// way and takes no registers there.
+// The hypotenuse of any two values, compiled apart from the quick way, so that it takes no registers
+// there.
+#[inline(never)]
 fn hypot_any(a: f64, b: f64) -> f64
     ensures { result ≡ roots.hypot binary64 a b }
 {
-    if a == a {
-        let ua = f64::to_bits(a) % T63;
-        if b == b {
-            let ub = f64::to_bits(b) % T63;
-            if ua < INF {
-                if ub < INF {
-                    return f64::from_bits(hypot_bits(ua, ub));
-                }
-                return f64::from_bits(INF);
-            }
-            return f64::from_bits(INF);
-        }
-        if ua < INF {
-            return 0.0 / 0.0;
-        }
-        return f64::from_bits(INF);
+    if a.is_infinite() || b.is_infinite() {
+        return f64::INFINITY;
     }
-    if b == b {
-        let ub = f64::to_bits(b) % T63;
-        if ub < INF {
-            return 0.0 / 0.0;
-        }
-        return f64::from_bits(INF);
+    if a.is_nan() || b.is_nan() {
+        return f64::NAN;
     }
-    0.0 / 0.0
+    f64::from_bits(hypot_bits(f64::to_bits(a) % T63, f64::to_bits(b) % T63))
 }
 
-// The bits of the hypotenuse of two values of middling size, or of one and next to nothing, n being
-// about the sum of their squares and nb its bits; 0: not decided.
-fn hypot_quick(n: f64, nb: u64, a: u64, b: u64) -> u64
+// The bits of the hypotenuse of two values of middling size, or of one and next to nothing, if the
+// quick way decides, n being about the sum of their squares and nb its bits.
+fn hypot_quick(n: f64, nb: u64, a: u64, b: u64) -> Option<u64>
     requires { nb < 2 ^ 63 }
-    ensures { 0 < result → FiniteHypotIs a b result }
+    ensures { IfSome result (FiniteHypotIs a b) }
 {
-    let big = larger(a, b);
-    let small = smaller(a, b);
+    let big = a.max(b);
+    let small = a.min(b);
     if big < 2000 * T52 {
         if small >= T52 {
             return hypot_tested(n, nb, big, small);
         }
         if big >= 28 * T52 {
-            return big;
+            return Some(big);
         }
     }
-    0
+    None
 }
 
 pub fn hypot(a: f64, b: f64) -> f64
     ensures { result ≡ roots.hypot binary64 a b }
 {
     let n = a * a + b * b;
-    if n == n {
+    if !n.is_nan() {
         let nb = f64::to_bits(n) % T63;
-        let r = hypot_quick(n, nb, f64::to_bits(a) % T63, f64::to_bits(b) % T63);
-        if r > 0 {
+        if let Some(r) = hypot_quick(n, nb, f64::to_bits(a) % T63, f64::to_bits(b) % T63) {
             return f64::from_bits(r);
         }
-        return hypot_any(a, b);
     }
     hypot_any(a, b)
 }

@@ -1,6 +1,7 @@
 // Numbers below everything: least, greatest, clamp, magnitude; vectors of three f64; the roots.
 #![tactic(auto)]
 
+mod bits;
 mod hypotenuse;
 mod order;
 pub mod roots;

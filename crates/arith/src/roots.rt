@@ -4,5 +4,5 @@ mod midpoint;
 mod wide;
 
 pub use guess::guessed;
-pub use midpoint::{bisect, nearest_of_three};
-pub use wide::{Parts, Wide, in_parts, square, sum_of_squares, sum_parts, widened};
+pub use midpoint::{SoughtRoot, nearest_of_three};
+pub use wide::{Parts, Wide};

@@ -1,4 +1,3 @@
 -- The place of a lifted witness, of every accepted query.
 pub mod Place
-pub mod Combined
 pub mod Accepted

@@ -1,3 +1,2 @@
 -- 02's chuck and work together.
 pub mod Pairs
-pub mod Steps

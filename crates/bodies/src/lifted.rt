@@ -5,4 +5,4 @@ mod shapes;
 
 pub use queries::{lifted_cylinder, lifted_point, lifted_sphere};
 pub use rule::lift;
-pub use shapes::{Lifted, LiftedCounted, LiftedCountedHit, LiftedHit};
+pub use shapes::Lifted;

@@ -5,4 +5,4 @@ mod shapes;
 
 pub use placement::placed_at;
 pub use refusal::before_placing;
-pub use shapes::{MoveAnswer, Report, Travel};
+pub use shapes::{Report, Travel};

@@ -4,4 +4,4 @@ mod refusal;
 mod shapes;
 
 pub use pairs::{nearer_section, nearer_section_convex, query_pair, query_pair_convex};
-pub use shapes::PairAnswer;
+pub use shapes::Won;

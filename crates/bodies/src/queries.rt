@@ -1,18 +1,17 @@
 // The query of a body, whatever its kind.
 ghost use Rattle.std.specs.Prelude.{◌≡◌};
-ghost use Rattle.section.specs.profile.Replies.{Answers};
-ghost use Rattle.walk.specs.cylinders.Cylinders.{told};
+ghost use Rattle.section.specs.profile.Replies.{told, Answers};
 ghost use Rattle.bodies.specs.Bodies.{body_answer, BodyPromised, boxes_only};
 ghost use Rattle.bodies.specs.declared.shapes.Body.TheVariants as body_kinds;
 
 use super::shapes::Body;
 use section::{
-    Aabb, CollisionHit, Sphere, box_distance, box_refusal, sphere_distance, sphere_refusal,
+    Aabb, CollisionHit, Refusal, Sphere, box_distance, box_refusal, sphere_distance, sphere_refusal,
 };
-use walk::{CountedAnswer, CountedHit, Settings, query_cylinder, settings_refusal};
+use walk::{CountedHit, Settings, query_cylinder, settings_refusal};
 
 // This number of boxes, nothing waiting, uncut.
-fn boxes_only(hit: CollisionHit, boxes: usize) -> CountedHit
+pub fn boxes_only(hit: CollisionHit, boxes: usize) -> CountedHit
     ensures { result ≡ boxes_only boxes hit }
 {
     CountedHit {
@@ -23,33 +22,26 @@ fn boxes_only(hit: CollisionHit, boxes: usize) -> CountedHit
     }
 }
 
-fn query_sphere(section: &[f64], sphere: Sphere, settings: Settings) -> CountedAnswer
+fn query_sphere(section: &[f64], sphere: Sphere, settings: Settings) -> Result<CountedHit, Refusal>
     ensures { let s = section.now in let b = body_kinds.Sphere sphere in
         Answers (told result) (body_answer s b settings) (BodyPromised s b settings) }
 {
     let none = [0.0; 0];
-    let number = sphere_refusal(section, sphere, &none, settings_refusal(settings));
-    if number != 0 {
-        return CountedAnswer::Refused(number);
-    }
-    CountedAnswer::Hit(boxes_only(sphere_distance(section, sphere), 0))
+    sphere_refusal(section, sphere, &none, settings_refusal(settings))?;
+    Ok(boxes_only(sphere_distance(section, sphere), 0))
 }
 
-fn query_box(section: &[f64], x: Aabb, settings: Settings) -> CountedAnswer
+fn query_box(section: &[f64], x: Aabb, settings: Settings) -> Result<CountedHit, Refusal>
     ensures { let s = section.now in let b = body_kinds.Box x in
         Answers (told result) (body_answer s b settings) (BodyPromised s b settings) }
 {
     let none = [0.0; 0];
-    let number = box_refusal(section, x, &none, settings_refusal(settings));
-    if number != 0 {
-        return CountedAnswer::Refused(number);
-    }
-    CountedAnswer::Hit(boxes_only(box_distance(section, x), 1))
+    box_refusal(section, x, &none, settings_refusal(settings))?;
+    Ok(boxes_only(box_distance(section, x), 1))
 }
 
-// A hit with its counts and mark, or the number under which the call is turned down. It asks nothing
-// of the caller.
-pub fn query_body(section: &[f64], body: Body, settings: Settings) -> CountedAnswer
+// A hit with its counts and mark, or why the call is turned down. It asks nothing of the caller.
+pub fn query_body(section: &[f64], body: Body, settings: Settings) -> Result<CountedHit, Refusal>
     ensures { let s = section.now in
         Answers (told result) (body_answer s body settings) (BodyPromised s body settings) }
 {

@@ -3,4 +3,4 @@ mod judging;
 mod shapes;
 
 pub use judging::verdict_walk;
-pub use shapes::{JudgedWalk, WalkVerdict};
+pub use shapes::JudgedWalk;

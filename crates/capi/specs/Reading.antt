@@ -1,7 +1,6 @@
 -- The verdict on a store: its record is written exactly where the store is refused.
 use Rattle.std.specs.Prelude.{ℕ, ◌≡◌}
-use Rattle.store.specs.declared.answers.StoreAnswer.{StoreAnswer}
-use Rattle.store.specs.declared.answers.StoreAnswer.TheVariants.{Accepted, Refused}
+use Rattle.store.specs.Answers.{StoreAnswer, Accepted, Refused}
 
 abbrev pub store_number : StoreAnswer → ℕ
 store_number Accepted = 0

@@ -1,4 +1,5 @@
 // The distance of a cylinder, with its counts and its mark.
+ghost use Rattle.std.specs.Prelude.{◌≡◌};
 ghost use Rattle.arith.specs.Vector.{vec};
 ghost use Rattle.walk.specs.cylinders.Cylinders.{cylinder_answer};
 ghost use Rattle.walk.specs.cylinders.Promised.{Promised};
@@ -8,6 +9,23 @@ ghost use Rattle.capi.specs.handing.Interface.{Measures, places, counts, both, c
 
 use arith::Vec3;
 use walk::{Cylinder, Settings};
+
+// A cylinder by the numbers of its ends.
+pub fn bar(ax: f64, ay: f64, az: f64, bx: f64, by: f64, bz: f64, radius: f64) -> Cylinder
+    ensures { result ≡ bar (vec ax ay az) (vec bx by bz) radius }
+{
+    let a = Vec3 {
+        x: ax,
+        y: ay,
+        z: az,
+    };
+    let b = Vec3 {
+        x: bx,
+        y: by,
+        z: bz,
+    };
+    Cylinder { a, b, radius }
+}
 
 pub fn jorghipa_cylinder(
     section: &[f64],
@@ -37,22 +55,12 @@ pub fn jorghipa_cylinder(
         (both (places distance.new witness_z.new witness_radius.new edge.new)
         (counts boxes.new waiting.new cut.new)) }
 {
-    let a = Vec3 {
-        x: ax,
-        y: ay,
-        z: az,
-    };
-    let b = Vec3 {
-        x: bx,
-        y: by,
-        z: bz,
-    };
     let settings = Settings {
         tolerance,
         most,
         intervals,
     };
-    let answer = walk::query_cylinder(section, Cylinder { a, b, radius }, settings);
+    let answer = walk::query_cylinder(section, bar(ax, ay, az, bx, by, bz, radius), settings);
     crate::handing::give_cylinder(
         answer,
         distance,

@@ -5,7 +5,7 @@ ghost use Rattle.store.specs.declared.edits.shapes.Place.TheVariants.{Record, Ad
 ghost use Rattle.capi.specs.given_edits.Editing.{edit_of, EditsSpace};
 ghost use Rattle.capi.specs.Reading.{ReadsStore};
 
-use store::{Place, StoreAnswer};
+use store::Place;
 
 pub fn jorghipa_replace(
     space: &mut [u8],
@@ -47,12 +47,11 @@ pub fn jorghipa_add(
 pub fn jorghipa_read_store(store: &[u8], record: &mut u32) -> u32
     ensures { ReadsStore (store_answer store.now) result «record».old «record».new }
 {
-    let answer = store::read_store(store);
-    match answer {
-        StoreAnswer::Refused(number, k) => {
-            *record = k;
-            number
+    match store::read_store(store) {
+        Err(refused) => {
+            *record = refused.at;
+            refused.refusal.number()
         }
-        StoreAnswer::Accepted => 0,
+        Ok(()) => 0,
     }
 }

@@ -10,9 +10,9 @@ ghost use Rattle.bodies.specs.lifted.Placed.{WithPlace, WithPlaceCounted};
 ghost use Rattle.capi.specs.handing.Interface.{Measures, counts, both};
 ghost use Rattle.capi.specs.handing.Lifting.{lifted, lifted_places, lifted_cylinder_places};
 
+use crate::cylinder::bar;
 use arith::Vec3;
 use section::Sphere;
-use walk::Cylinder;
 
 pub fn jorghipa_lifted_point(
     section: &[f64],
@@ -87,17 +87,7 @@ pub fn jorghipa_lifted_cylinder(
         edge.new)
         (counts boxes.new waiting.new cut.new)) }
 {
-    let a = Vec3 {
-        x: ax,
-        y: ay,
-        z: az,
-    };
-    let b = Vec3 {
-        x: bx,
-        y: by,
-        z: bz,
-    };
-    let answer = bodies::lifted_cylinder(section, Cylinder { a, b, radius });
+    let answer = bodies::lifted_cylinder(section, bar(ax, ay, az, bx, by, bz, radius));
     crate::handing::give_lifted_cylinder(
         answer, distance, witness_x, witness_y, witness_z, edge, boxes, waiting, cut,
     )

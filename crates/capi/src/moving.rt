@@ -1,5 +1,6 @@
 // Trying a move: the report in the lent places.
 ghost use Rattle.arith.specs.Vector.{vec};
+ghost use Rattle.section.specs.profile.Replies.{told, Answers};
 ghost use Rattle.walk.specs.settings.Settings.{settings};
 ghost use Rattle.bodies.specs.moves.Moves.{MovePromised};
 ghost use Rattle.capi.specs.handing.Interface.{Measures};
@@ -7,9 +8,34 @@ ghost use Rattle.capi.specs.lists.Lists.{body_at};
 ghost use Rattle.capi.specs.handing.Moves.{move_places, report_places};
 ghost use Rattle.capi.specs.Calls.{travel, move_of};
 
+use crate::lists::{body_at, one_body_refusal};
 use arith::Vec3;
-use bodies::Travel;
+use bodies::{Report, Travel};
+use section::Refusal;
 use walk::Settings;
+
+// What is turned down of the body's kind and numbers comes before all else.
+fn move_of(
+    section: &[f64],
+    kind: u32,
+    numbers: &[f64],
+    clearance: f64,
+    travel: Travel,
+    settings: Settings,
+) -> Result<Report, Refusal>
+    ensures { let s = section.now in let n = numbers.now in
+        Answers (told result) (move_of s kind n clearance travel settings)
+        (MovePromised s (body_at kind n 0) travel settings) }
+{
+    one_body_refusal(kind, numbers)?;
+    bodies::try_move(
+        section,
+        body_at(kind, numbers, 0),
+        clearance,
+        travel,
+        settings,
+    )
+}
 
 pub fn jorghipa_move(
     section: &[f64],
@@ -41,10 +67,6 @@ pub fn jorghipa_move(
         (move_places distance.new step.new collides.new colliding_step.new
         boxes.new) }
 {
-    let number = crate::lists::one_body_refusal(kind, numbers);
-    if number != 0 {
-        return number;
-    }
     let start = Vec3 {
         x: start_x,
         y: start_y,
@@ -60,13 +82,7 @@ pub fn jorghipa_move(
         most,
         intervals,
     };
-    let body = crate::lists::body_at(kind, numbers, 0);
-    let answer = bodies::try_move(
-        section,
-        body,
-        clearance,
-        Travel { start, end, steps },
-        settings,
-    );
+    let travel = Travel { start, end, steps };
+    let answer = move_of(section, kind, numbers, clearance, travel, settings);
     crate::handing::give_report(answer, distance, step, collides, colliding_step, boxes)
 }

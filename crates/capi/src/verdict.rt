@@ -9,9 +9,9 @@ ghost use Rattle.capi.specs.handing.Interface.{Gives, Measures, counts, mark};
 ghost use Rattle.capi.specs.handing.Walks.{judged_places, walk_places};
 ghost use Rattle.bodies.specs.walk_verdicts.WalkVerdicts.{walk_verdict, FewCounted};
 
+use crate::cylinder::bar;
 use arith::Vec3;
 use section::{Aabb, Sphere};
-use walk::Cylinder;
 
 pub fn jorghipa_verdict_sphere(
     section: &[f64],
@@ -62,17 +62,7 @@ pub fn jorghipa_verdict_cylinder(
         (body_verdict section.now (body_kinds.Cylinder (bar (vec ax ay az) (vec bx by bz) radius)) clearance)
         result collision.old collision.new }
 {
-    let a = Vec3 {
-        x: ax,
-        y: ay,
-        z: az,
-    };
-    let b = Vec3 {
-        x: bx,
-        y: by,
-        z: bz,
-    };
-    let verdict = bodies::verdict_cylinder(section, Cylinder { a, b, radius }, clearance);
+    let verdict = bodies::verdict_cylinder(section, bar(ax, ay, az, bx, by, bz, radius), clearance);
     crate::handing::judge(verdict, collision)
 }
 
@@ -96,17 +86,7 @@ pub fn jorghipa_verdict_walk(
         (judged_places collision.old (counts boxes.old waiting.old cut.old))
         (judged_places collision.new (counts boxes.new waiting.new cut.new)) }
 {
-    let a = Vec3 {
-        x: ax,
-        y: ay,
-        z: az,
-    };
-    let b = Vec3 {
-        x: bx,
-        y: by,
-        z: bz,
-    };
-    let verdict = bodies::verdict_walk(section, Cylinder { a, b, radius }, clearance);
+    let verdict = bodies::verdict_walk(section, bar(ax, ay, az, bx, by, bz, radius), clearance);
     crate::handing::give_walk(verdict, collision, boxes, waiting, cut)
 }
 

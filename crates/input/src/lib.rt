@@ -1,7 +1,7 @@
 // What a reader gives, read into a lent buffer.
 #![tactic(auto)]
 
-ghost use Rattle.std.specs.Prelude.{◌≡◌, ◌+◌, ◌≤◌, ◌<◌, ◌^◌, ℕ, IfOk, OnErr, length, min, set, take};
+ghost use Rattle.std.specs.Prelude.{◌≡◌, ◌+◌, ◌≤◌, ◌<◌, ◌^◌, ℕ, IfOk, OnErr, length, set, take};
 ghost use Rattle.std.specs.Io.KnownBytes.{Consumes, IsAtEnd, Keeps};
 ghost use Rattle.std.proofs.lemmas.List.Edits.{sets};
 ghost use Rattle.input.specs.Input.{ReadsOn, ReadsPiece};
@@ -22,21 +22,9 @@ fn keep(buffer: &mut [u8], from: usize, piece: &[u8])
     requires { from + length piece.now < 2 ^ 64 }
     ensures { buffer.new ≡ sets buffer.old from piece.now }
 {
-    let mut i = 0;
-    while i < piece.len() {
-        keep_byte(buffer, from + i, piece[i]);
-        i += 1;
+    for (i, x) in piece.iter().enumerate() {
+        keep_byte(buffer, from + i, *x);
     }
-}
-
-fn least(a: usize, b: usize) -> usize
-    ensures within { (result ≤ a) × (result ≤ b) }
-    ensures value { result ≡ min a b }
-{
-    if a < b {
-        return a;
-    }
-    b
 }
 
 // Reads once, `most` bytes at most, to the front of the piece, and says how many came. They are the
@@ -48,7 +36,7 @@ fn read_once<R: Read>(reader: &mut R, piece: &mut [u8], most: usize) -> io::Resu
     ensures end { 0 < most → 0 < length piece.old → IfOk result (λ n. n ≡ 0 → IsAtEnd (R.remaining reader.new)) }
     ensures failed { OnErr result (Keeps (R.remaining reader.old) (R.remaining reader.new)) }
 {
-    let end = least(most, piece.len());
+    let end = most.min(piece.len());
     reader.read(&mut piece[..end])
 }
 

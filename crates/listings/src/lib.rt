@@ -5,7 +5,6 @@ mod lister;
 pub mod store_listing;
 
 pub use lister::{list_input, list_store, refusal_line};
-pub use store_listing::ListAnswer;
 
 // For the crates above.
 pub use store_listing::{put_decimal, put_hex, put_word};

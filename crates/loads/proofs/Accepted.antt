@@ -20,7 +20,7 @@ use Rattle.store.specs.First.{first_refused}
 use Rattle.store.specs.Kinds.{right_kind, kinds_answer}
 use Rattle.store.specs.Radii.{below_axis, radii_answer}
 use Rattle.store.specs.Store.{vertex_numbers, vertices, length_answer, section_answer, chained, store_answer}
-use Rattle.store.specs.declared.answers.StoreAnswer.TheVariants.{Accepted}
+use Rattle.store.specs.Answers.{Accepted}
 use Rattle.store.proofs.Following.{member_snoc}
 use Rattle.loads.specs.Load.{sphere_next, up_to, load}
 use Rattle.loads.proofs.Coordinates.{number_taken, coordinate_ranged, radius_ranged, radius_above}

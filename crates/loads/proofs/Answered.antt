@@ -8,8 +8,12 @@ use lib.ListN.{length, take, drop, length-append}
 use lib.Seq.{take_at}
 use lib.Dec.{T, eqb, ltb}
 use borrow.Author.Tests.{ltb-false}
+use Rattle.std.specs.Prelude.{Result, Ok, Err}
+use Rattle.section.specs.declared.shapes.Refusal.{Refusal}
+use Rattle.section.specs.profile.Numbers.{refusal_number}
 use Rattle.section.specs.profile.Refusals.{refusal}
 use Rattle.section.specs.profile.Replies.{Reply, value, turned_down, reply}
+use Rattle.section.proofs.profile.Numbered.{above_zero}
 use Rattle.section.proofs.profile.Each.{All, nil, cons}
 use Rattle.section.proofs.profile.Refusals.Ordered.{Passes, none_applies}
 use Rattle.listings.specs.store_listing.Listing.{Prints}
@@ -17,8 +21,6 @@ use Rattle.listings.specs.store_listing.Steps.{Written}
 use Rattle.listings.proofs.store_listing.Writing.{front_written}
 use Rattle.loads.specs.Load.{load, load_tests, load_answer, LoadWritten}
 use Rattle.loads.specs.Printed.{bytes_line, refused_line, load_text}
-use Rattle.loads.specs.declared.answers.LoadAnswer.{LoadAnswer}
-use Rattle.loads.specs.declared.answers.LoadAnswer.TheVariants.{Bytes, Refused}
 use Rattle.loads.proofs.Lines.{length_bytes_line, length_refused_line}
 use Rattle.loads.proofs.Numbered.{length_load}
 
@@ -46,20 +48,21 @@ in_range seed n e = go (none_applies (load_tests seed n) tt e)
         }
 
 -- ---- the answer, and the space
-module _ (seed n : ℕ) (given : List ℕ) {number : ℕ} (told : number ≡ refusal (load_tests seed n)) where
-  pub load_refused : (number ≡ 0 → ⊥) → LoadWritten (load_answer seed n) given (Refused number) given
+module _ (seed n : ℕ) (given : List ℕ) where
+  pub load_refused :
+      {e : Refusal} → refusal_number e ≡ refusal (load_tests seed n) → LoadWritten (load_answer seed n) given (Err e) given
   unfolding load_answer
-  load_refused h = rw (← told) (go number h)
+  load_refused {e} why = rw (← why) (go (refusal_number e) (above_zero e) refl)
     where
-      go : (k : ℕ) → (k ≡ 0 → ⊥) → LoadWritten (reply k (load seed n)) given (Refused k) given
-      go zero h = absurd (h refl)
-      go (suc k) h = record { told_of = refl; space = refl }
+      go : (k : ℕ) → (k ≡ 0 → ⊥) → refusal_number e ≡ k → LoadWritten (reply k (load seed n)) given (Err e) given
+      go zero h same = absurd (h refl)
+      go (suc k) h same = record { told_of = ap turned_down same; space = refl }
 
   pub load_answered :
-      {after : List ℕ} {r : ℕ} → number ≡ 0 → Prints (load seed n) given after r
-      → LoadWritten (load_answer seed n) given (Bytes r) after
+      {after : List ℕ} {r : ℕ} → 0 ≡ refusal (load_tests seed n) → Prints (load seed n) given after r
+      → LoadWritten (load_answer seed n) given (Ok r) after
   unfolding load_answer
-  load_answered none put = rw (← told, none) (record { told_of = ap value put.count; space = put.front })
+  load_answered none put = rw (← none) (record { told_of = ap value put.count; space = put.front })
 
 -- ---- what is printed
 -- the first m bytes of the space are the load
@@ -79,13 +82,13 @@ same_number : {j k : ℕ} → ◌≡◌ {A = Reply ℕ} (turned_down j) (turned_
 same_number e = cc
 
 module _ (seed n : ℕ) (given : List ℕ) {after : List ℕ} where
-  pub front_of_lem : {r : LoadAnswer} {m : ℕ} → LoadWritten (load_answer seed n) given r after → r ≡ Bytes m → Front seed n after m
+  pub front_of_lem : {r : Result ℕ Refusal} {m : ℕ} → LoadWritten (load_answer seed n) given r after → r ≡ Ok m → Front seed n after m
   unfolding load_answer
   front_of_lem {r} {m} w is =
-      go (refusal (load_tests seed n)) refl (subst (λ (x : LoadAnswer). LoadWritten (load_answer seed n) given x after) is w)
+      go (refusal (load_tests seed n)) refl (subst (λ (x : Result ℕ Refusal). LoadWritten (load_answer seed n) given x after) is w)
     where
       go :
-          (k : ℕ) → refusal (load_tests seed n) ≡ k → LoadWritten (reply k (load seed n)) given (Bytes m) after
+          (k : ℕ) → refusal (load_tests seed n) ≡ k → LoadWritten (reply k (load seed n)) given (Ok m) after
           → Front seed n after m
       go zero e w =
           let size : m ≡ length (load seed n) = same_value w.told_of in
@@ -101,12 +104,13 @@ module _ (seed n : ℕ) (given : List ℕ) {after : List ℕ} where
       go (suc k) e w = absurd (never w.told_of)
 
   pub refused_of :
-      {r : LoadAnswer} {k : ℕ} → LoadWritten (load_answer seed n) given r after → r ≡ Refused k → load_answer seed n ≡ turned_down k
+      {r : Result ℕ Refusal} {e : Refusal} → LoadWritten (load_answer seed n) given r after → r ≡ Err e
+      → load_answer seed n ≡ turned_down (refusal_number e)
   unfolding load_answer
-  refused_of {r} {k} w is =
-      go (refusal (load_tests seed n)) (subst (λ (x : LoadAnswer). LoadWritten (load_answer seed n) given x after) is w)
+  refused_of {r} {e} w is =
+      go (refusal (load_tests seed n)) (subst (λ (x : Result ℕ Refusal). LoadWritten (load_answer seed n) given x after) is w)
     where
-      go : (j : ℕ) → LoadWritten (reply j (load seed n)) given (Refused k) after → reply j (load seed n) ≡ turned_down k
+      go : (j : ℕ) → LoadWritten (reply j (load seed n)) given (Err e) after → reply j (load seed n) ≡ turned_down (refusal_number e)
       go zero w = absurd (never (sym w.told_of))
       go (suc j) w = ap turned_down (sym (same_number w.told_of))
 

@@ -1,19 +1,19 @@
--- Bytes put into the space: the low bytes of a number one by one, records behind records while the state goes on, and the whole
+-- Bytes put into the space: the fields of a record one behind the other, records behind records while the state goes on, and the whole
 -- load from the front on.
-use Prim.Native.Nat.{ℕ, zero, suc, ◌+◌, ◌-◌, ◌*◌, ◌/◌, ◌%◌, ◌≤◌}
+use Prim.Native.Nat.{ℕ, zero, suc, ◌+◌, ◌*◌, ◌≤◌}
 use native.Mathlib.Nat.{add-zero, add-suc, zero-mul}
 use native.Mathlib.Numerals.{add-one}
 use native.Mathlib.Omega.{arith}
-use mathlib.Core.List.{List, ◌∷◌, ◌++◌, flat_map}
+use mathlib.Core.List.{List, ◌++◌, flat_map}
 use mathlib.Core.Path.{◌≡◌, refl, sym, ap, ap₂, subst, ◌∙◌}
-use lib.ListN.{length, set, length-set}
-use lib.Seq.{sets, length-sets}
-use Rattle.store.specs.Bytes.{low_bytes}
+use lib.ListN.{length}
+use lib.Seq.{sets}
 use Rattle.store.specs.Records.{record_bytes}
+use Rattle.store.specs.edits.Steps.{Put}
 use Rattle.store.proofs.ReadBack.{length_record}
 use Rattle.listings.specs.store_listing.Listing.{Prints}
 use Rattle.listings.specs.store_listing.Steps.{Written}
-use Rattle.listings.proofs.store_listing.Writing.{then, nothing_written, front_written}
+use Rattle.listings.proofs.store_listing.Writing.{then, front_written}
 use Rattle.loads.specs.Xorshift.{xorshift, state_after}
 use Rattle.loads.specs.Load.{coordinate_bits, radius_bits, vertex_record, sphere_next, sphere_record, up_to}
 use Rattle.loads.specs.Load.{load_vertices, load_spheres, load}
@@ -21,29 +21,16 @@ use Rattle.loads.specs.Steps.{Drawn}
 use Rattle.loads.proofs.Sequence.{run_more, length_run}
 use Rattle.loads.proofs.Numbered.{length_load}
 
--- ---- the low bytes of a number
-pub low_none : (l : List ℕ) (at n k : ℕ) → k ≡ 0 → Written l at (low_bytes k n) l at
-unfolding low_bytes
-low_none l at n k e = rw e (nothing_written l at)
+-- ---- the fields of a record
+-- a word by what it is
+pub put_as : {l after w t : List ℕ} {at : ℕ} → w ≡ t → Put l at w after → Put l at t after
+put_as same word = rw (← same) word
 
-pub low_more :
-    (l : List ℕ) (at n k : ℕ) {after : List ℕ} {r : ℕ} → (k ≡ 0 → ⊥)
-    → Written (set l at (n % 256)) (at + 1) (low_bytes (k - 1) (n / 256)) after r → Written l at (low_bytes k n) after r
-unfolding low_bytes
-low_more l at n zero h next = absurd (h refl)
-low_more l at n (suc k) {after} {r} h next = go (rw (one_less, add-one at) at next)
-  where
-    one_less : suc k - 1 ≡ k
-    one_less = omega arith
-
-    go :
-        Written (set l at (n % 256)) (suc at) (low_bytes k (n / 256)) after r
-        → Written l at (n % 256 ∷ low_bytes k (n / 256)) after r
-    go w = record { text = w.text; end = omega (arith, w.end) }
-
-pub low_length :
-    (l : List ℕ) (at x i : ℕ) (t : List ℕ) {after : List ℕ} → after ≡ sets (set l at x) i t → length after ≡ length l
-low_length l at x i t e = ap length e ∙ length-sets (set l at x) i t ∙ length-set l at x
+-- a word behind another
+pub behind :
+    {l mid after t u : List ℕ} {at m : ℕ} → Put l at t mid → m ≡ at + length t → Put mid m u after → Put l at (t ++ u) after
+behind first place next =
+    record { bytes = (then (record { text = first.bytes; end = place }) (record { text = next.bytes; end = refl })).text }
 
 -- ---- records, the state going on
 pub states_add : (state a b : ℕ) → state_after (state_after state a) b ≡ state_after state (a + b)
@@ -92,22 +79,22 @@ sphere_size n j s = length_record _ _ _ _ _ _
 
 -- what is drawn for one vertex, and for one sphere
 pub vertex_drawn :
-    (i state : ℕ) {l after : List ℕ} {at s t x y r : ℕ} → s ≡ xorshift state → t ≡ xorshift s → x ≡ coordinate_bits s
-    → y ≡ radius_bits t → Written l at (record_bytes (i + 2) 1 x y 0 0) after r
+    (i state : ℕ) {l after : List ℕ} {at s t x y : ℕ} → s ≡ xorshift state → t ≡ xorshift s → x ≡ coordinate_bits s
+    → y ≡ radius_bits t → Put l at (record_bytes (i + 2) 1 x y 0 0) after
     → Drawn l at (vertex_record i state) after (state_after state 2) t
 unfolding vertex_record state_after
 vertex_drawn i state {l} {after} {at} s-is t_is x-is y-is w =
     let second = t_is ∙ ap xorshift s-is in
     record {
-      text = w.text ∙ ap₂ (λ (a b : ℕ). sets l at (record_bytes (i + 2) 1 a b 0 0)) (x-is ∙ ap coordinate_bits s-is)
+      text = w.bytes ∙ ap₂ (λ (a b : ℕ). sets l at (record_bytes (i + 2) 1 a b 0 0)) (x-is ∙ ap coordinate_bits s-is)
           (y-is ∙ ap radius_bits second);
       end = second;
     }
 
 pub sphere_drawn :
-    (n j state : ℕ) {l after : List ℕ} {at s t u v m w x y z r : ℕ} → s ≡ xorshift state → t ≡ xorshift s → u ≡ xorshift t
+    (n j state : ℕ) {l after : List ℕ} {at s t u v m w x y z : ℕ} → s ≡ xorshift state → t ≡ xorshift s → u ≡ xorshift t
     → v ≡ xorshift u → m ≡ sphere_next n j → w ≡ coordinate_bits s → x ≡ coordinate_bits t → y ≡ coordinate_bits u
-    → z ≡ radius_bits v → Written l at (record_bytes m 2 w x y z) after r
+    → z ≡ radius_bits v → Put l at (record_bytes m 2 w x y z) after
     → Drawn l at (sphere_record n j state) after (state_after state 4) v
 unfolding sphere_record state_after
 sphere_drawn n j state {l} {after} {at} {s} {t} {u} {v} {m} {w} {x} {y} {z} s-is t_is u-is v-is m-is w_is x-is y-is z-is written =
@@ -116,7 +103,7 @@ sphere_drawn n j state {l} {after} {at} {s} {t} {u} {v} {m} {w} {x} {y} {z} s-is
     let fourth = v-is ∙ ap xorshift third in
     record {
       text =
-          written.text
+          written.bytes
           ∙ ap₂ (λ (a b : ℕ). sets l at (record_bytes a 2 b x y z)) m-is (w_is ∙ ap coordinate_bits s-is)
           ∙ ap₂ (λ (a b : ℕ). sets l at (record_bytes (sphere_next n j) 2 (coordinate_bits (xorshift state)) a b z))
           (x-is ∙ ap coordinate_bits second) (y-is ∙ ap coordinate_bits third)
@@ -163,16 +150,16 @@ spheres_end state n j {l} {after} {s} below above all =
 
 -- ---- the whole load
 pub load_put :
-    (seed n : ℕ) {l first second after : List ℕ} {r s q : ℕ} → n ≤ 256 → length l ≡ 20480
-    → Written l 0 (record_bytes 1 0 0 0 0 0) first r → Drawn first 40 (load_vertices seed n) second (state_after seed (n * 2)) s
+    (seed n : ℕ) {l first second after : List ℕ} {s q : ℕ} → n ≤ 256 → length l ≡ 20480
+    → Put l 0 (record_bytes 1 0 0 0 0 0) first → Drawn first 40 (load_vertices seed n) second (state_after seed (n * 2)) s
     → Drawn second (n * 40 + 40) (load_spheres s n 32) after (state_after s 128) q
     → Prints (load seed n) l after (n * 40 + 1320)
 unfolding load
-load_put seed n {l} {first} {second} {after} {r} {s} {q} few room lead vertices spheres =
+load_put seed n {l} {first} {second} {after} {s} {q} few room lead vertices spheres =
     let size : length (load_vertices seed n) ≡ n * 40 = length_run _ 40 (λ k. vertex_size k _) n in
     let end : length (load_spheres s n 32) ≡ 32 * 40 = length_run _ 40 (λ k. sphere_size n k _) 32 in
     let behind : Written l 0 (record_bytes 1 0 0 0 0 0) first 40 =
-    record { text = lead.text; end = omega (arith, length_record 1 0 0 0 0 0) } in
+    record { text = lead.bytes; end = omega (arith, length_record 1 0 0 0 0 0) } in
     let middle : Written first 40 (load_vertices seed n) second (n * 40 + 40) =
     record { text = vertices.text; end = omega (arith, size) } in
     let last : Written second (n * 40 + 40) (load_spheres s n 32) after (n * 40 + 1320) =

@@ -1,16 +1,15 @@
 -- The store that a seed and a vertex count give, or the number under which they are turned down.
-use Rattle.std.specs.Prelude.{ℕ, zero, suc, ◌+◌, ◌*◌, ◌%◌, ◌||◌, cond, ◌≡◌, length, drop, eqb, ltb, pos, Float}
+use Rattle.std.specs.Prelude.{ℕ, zero, suc, ◌+◌, ◌*◌, ◌%◌, ◌||◌, cond, ◌≡◌, length, drop, eqb, ltb, pos, Float, Result}
 use mathlib.Core.List.{List, [], ◌∷◌, ◌++◌, flat_map}
 use Rattle.std.specs.Float.{binary64}
 use Rattle.std.specs.Float.Ieee.{of_int, of_bits, to_bits}
 use Rattle.arith.specs.F64.{◌⊖◌, ◌⊘◌}
 use Rattle.arith.specs.Num.{abs}
+use Rattle.section.specs.declared.shapes.Refusal.{Refusal}
 use Rattle.section.specs.profile.Refusals.{Test, ◌when◌, refusal}
-use Rattle.section.specs.profile.Replies.{Reply, value, turned_down, reply, mapped}
+use Rattle.section.specs.profile.Replies.{Reply, value, turned_down, reply, mapped, told}
 use Rattle.store.specs.Records.{record_bytes}
 use Rattle.loads.specs.Xorshift.{xorshift, state_after}
-use Rattle.loads.specs.declared.answers.LoadAnswer.{LoadAnswer}
-use Rattle.loads.specs.declared.answers.LoadAnswer.TheVariants.{Bytes, Refused}
 
 -- 1,048,576 and 64
 abbrev pub middle : Float
@@ -75,16 +74,12 @@ load_tests seed n = (20 when eqb seed 0) ∷ (21 when (ltb n 3 || ltb 256 n)) �
 unfoldable pub load_answer : ℕ → ℕ → Reply (List ℕ)
 load_answer seed n = reply (refusal (load_tests seed n)) (load seed n)
 
--- what `write_load` answers: how many bytes the store has, or the number
-abbrev pub told : LoadAnswer → Reply ℕ
-told (Bytes n) = value n
-told (Refused n) = turned_down n
-
 -- what the lent space then holds: the store at its front and the rest as it was, or all as it was
 abbrev pub space_after : Reply (List ℕ) → List ℕ → List ℕ
 space_after (value b) given = b ++ drop (length b) given
 space_after (turned_down n) given = given
 
-pub record LoadWritten (answer : Reply (List ℕ)) (given : List ℕ) (r : LoadAnswer) (after : List ℕ) : Type 0 where
+-- r is how many bytes the store has, or the refusal
+pub record LoadWritten (answer : Reply (List ℕ)) (given : List ℕ) (r : Result ℕ Refusal) (after : List ℕ) : Type 0 where
   pub told_of : told r ≡ mapped length answer
   pub space : after ≡ space_after answer given

@@ -1,40 +1,29 @@
-// The fields of a record, put into a lent space. Each function writes from place `at` on and hands
-// back the place behind what it wrote.
+// The fields of a record, put into a lent space.
 ghost use Rattle.std.specs.Prelude.{◌+◌, ◌≤◌, length};
-ghost use Rattle.store.specs.Bytes.{low_bytes};
+ghost use Rattle.store.specs.Kinds.{kind_number};
 ghost use Rattle.store.specs.Records.{record_bytes};
-ghost use Rattle.listings.specs.store_listing.Steps.{Written};
+ghost use Rattle.store.specs.edits.Steps.{Put};
 
-// The k low bytes of n, the lowest first.
-fn put_bytes(space: &mut [u8], at: usize, n: u64, k: usize) -> usize
-    requires { at + k ≤ length space.old }
-    ensures { Written space.old at (low_bytes k n) space.new result }
-{
-    if k == 0 {
-        return at;
-    }
-    space[at] = (n % 256) as u8;
-    put_bytes(space, at + 1, n / 256, k - 1)
-}
+use store::{Kind, put};
 
-// next, kind, and the bits of the four f64
+// next, kind, and the bits of the four f64, from place `at` on
 pub fn put_record(
     space: &mut [u8],
     at: usize,
-    next: u64,
-    kind: u64,
+    next: u32,
+    kind: Kind,
     a: u64,
     b: u64,
     c: u64,
     d: u64,
-) -> usize
+)
     requires { at + 40 ≤ length space.old }
-    ensures { Written space.old at (record_bytes next kind a b c d) space.new result }
+    ensures { Put space.old at (record_bytes next (kind_number kind) a b c d) space.new }
 {
-    let e = put_bytes(space, at, next, 4);
-    let f = put_bytes(space, e, kind, 4);
-    let g = put_bytes(space, f, a, 8);
-    let h = put_bytes(space, g, b, 8);
-    let i = put_bytes(space, h, c, 8);
-    put_bytes(space, i, d, 8)
+    put(space, at, &next.to_le_bytes());
+    put(space, at + 4, &kind.number().to_le_bytes());
+    put(space, at + 8, &a.to_le_bytes());
+    put(space, at + 16, &b.to_le_bytes());
+    put(space, at + 24, &c.to_le_bytes());
+    put(space, at + 32, &d.to_le_bytes());
 }

@@ -1,13 +1,11 @@
 // Test loads: the store that a seed and a vertex count give, on bytes.
 #![tactic(auto)]
 
-mod answers;
 mod draws;
 mod fields;
 mod printing;
 mod runs;
 mod writer;
 
-pub use answers::LoadAnswer;
 pub use printing::load_input;
 pub use writer::write_load;

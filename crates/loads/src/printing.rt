@@ -8,7 +8,6 @@ ghost use Rattle.listings.specs.store_listing.Steps.{Written};
 ghost use Rattle.loads.specs.Load.{load_answer};
 ghost use Rattle.loads.specs.Printed.{bytes_line, refused_line, load_text, seed_of, input_text};
 
-use super::answers::LoadAnswer;
 use super::writer::write_load;
 use listings::{put_decimal, put_hex, put_word};
 use store::u64_at;
@@ -18,10 +17,8 @@ fn put_digits(bytes: &[u8], text: &mut [u8]) -> usize
     ensures { Written text.old 0 (flat_map (hex 2) bytes.now) text.new result }
 {
     let mut at = 0;
-    let mut i = 0;
-    while i < bytes.len() {
-        at = put_hex(text, at, bytes[i] as u64, 2);
-        i += 1;
+    for byte in bytes {
+        at = put_hex(text, at, *byte as u64, 2);
     }
     at
 }
@@ -47,10 +44,9 @@ fn put_answer(seed: u64, vertices: u64, text: &mut [u8; 23121]) -> usize
     ensures { Prints (load_text (load_answer seed vertices)) text.old text.new result }
 {
     let mut space = [0u8; 20480];
-    let answer = write_load(&mut space, seed, vertices);
-    match answer {
-        LoadAnswer::Bytes(n) => put_bytes_line(&space[..n], text),
-        LoadAnswer::Refused(number) => put_refused_line(number, text),
+    match write_load(&mut space, seed, vertices) {
+        Ok(n) => put_bytes_line(&space[..n], text),
+        Err(refusal) => put_refused_line(refusal.number(), text),
     }
 }
 

@@ -4,29 +4,24 @@ use Prim.Native.Nat.{◌*◌, ◌%◌, ◌<◌}
 use native.Mathlib.Omega.{arith}
 use mathlib.Core.Bool.{true, false}
 use mathlib.Core.List.{List, [], ◌∷◌, ◌++◌}
-use mathlib.Core.Path.{◌≡◌, refl, ap}
+use mathlib.Core.Path.{◌≡◌, refl}
 use lib.ListN.{length}
 use lib.Ieee.{Float}
 use borrow.Author.Tests.{ne_eqb, le-ltb, lt-ltb}
 use Rattle.arith.specs.declared.vector.Vec3.{Vec3}
 use Rattle.section.specs.Answers.{point_answer, sphere_answer, box_answer}
 use Rattle.section.specs.profile.Refusals.{Test, refusal, any_of, odd, fewer, more, given_tests}
-use Rattle.section.specs.profile.Replies.{turned_down}
+use Rattle.section.specs.profile.Replies.{turned_down, Answers}
 use Rattle.section.specs.profile.Vertices.{count}
 use Rattle.section.specs.declared.profile.shapes.Aabb.{Aabb}
-use Rattle.section.specs.declared.shapes.Answer.TheVariants as answers
 use Rattle.section.specs.declared.profile.shapes.Sphere.{Sphere}
 use Rattle.section.specs.declared.profile.shapes.Vertex.{Vertex}
 use Rattle.walk.specs.cylinders.Cylinders.{cylinder_answer}
 use Rattle.walk.specs.declared.bands.shapes.Cylinder.{Cylinder}
-use Rattle.walk.specs.declared.cylinders.shapes.CountedAnswer.TheVariants as cylinder_answers
 use Rattle.records.specs.Flattened.{flattened}
-use Rattle.records.specs.Replies.{point_of, sphere_of, box_of, cylinder_of, c_reply, c_cylinder_reply}
-use Rattle.records.specs.Steps.{OfPoint, OfSphere, OfBox, OfCylinder, OfPlace, OfBall, OfBounds, OfBar}
-use Rattle.records.specs.declared.replies.Ball.{Ball}
-use Rattle.records.specs.declared.replies.Bar.{Bar}
-use Rattle.records.specs.declared.replies.Bounds.{Bounds}
-use Rattle.records.specs.declared.replies.Place.{Place}
+use Rattle.section.specs.Demand.{Bounded, BoundedOffAxis}
+use Rattle.walk.specs.cylinders.Promised.{Promised}
+use Rattle.walk.specs.settings.Settings.{finest}
 
 flattened_length : (xs : List Vertex) → length (flattened xs) ≡ 2 * length xs
 unfolding flattened
@@ -44,31 +39,18 @@ module _ (xs : List Vertex) (h : 256 < length xs) where
       rw (even, enough, many)
 
   -- a refusal owes nothing but its number
-  pub point_too_many : (p : Vec3) → OfPoint p (flattened xs) (answers.Refused 3)
+  pub point_too_many : (p : Vec3) → Answers (turned_down 3) (point_answer (flattened xs) p) (BoundedOffAxis (flattened xs))
   unfolding point_answer
   point_too_many p = record { equal = rw (number_three _ _); owed = tt }
 
-  pub sphere_too_many : (b : Sphere) → OfSphere b (flattened xs) (answers.Refused 3)
+  pub sphere_too_many : (b : Sphere) → Answers (turned_down 3) (sphere_answer (flattened xs) b) (BoundedOffAxis (flattened xs))
   unfolding sphere_answer
   sphere_too_many b = record { equal = rw (number_three _ _); owed = tt }
 
-  pub box_too_many : (x : Aabb) → OfBox x (flattened xs) (answers.Refused 3)
+  pub box_too_many : (x : Aabb) → Answers (turned_down 3) (box_answer (flattened xs) x) (Bounded (flattened xs))
   unfolding box_answer
   box_too_many x = record { equal = rw (number_three _ _); owed = tt }
 
-  pub cylinder_too_many : (c : Cylinder) → OfCylinder c (flattened xs) (cylinder_answers.Refused 3)
+  pub cylinder_too_many : (c : Cylinder) → Answers (turned_down 3) (cylinder_answer (flattened xs) c finest) (Promised (flattened xs) c finest)
   unfolding cylinder_answer
   cylinder_too_many c = record { equal = rw (number_three _ _); owed = tt }
-
-  -- the same of the C interface's replies
-  pub place_too_many : (x : Place) → OfPlace x (flattened xs) (c_reply (turned_down 3))
-  place_too_many x = ap c_reply (point_too_many (point_of x)).equal
-
-  pub ball_too_many : (x : Ball) → OfBall x (flattened xs) (c_reply (turned_down 3))
-  ball_too_many x = ap c_reply (sphere_too_many (sphere_of x)).equal
-
-  pub bounds_too_many : (x : Bounds) → OfBounds x (flattened xs) (c_reply (turned_down 3))
-  bounds_too_many x = ap c_reply (box_too_many (box_of x)).equal
-
-  pub bar_too_many : (x : Bar) → OfBar x (flattened xs) (c_cylinder_reply (turned_down 3))
-  bar_too_many x = ap c_cylinder_reply (cylinder_too_many (cylinder_of x)).equal

@@ -1,32 +1,32 @@
-// The array of numbers, and a vertex in its two places.
-ghost use Rattle.std.specs.Prelude.{◌≡◌, ◌*◌, ◌≤◌, length};
-ghost use Rattle.records.specs.Steps.{stored, next};
+// Vertex records as numbers, z and radius in turn.
+ghost use Rattle.std.specs.Prelude.{◌≡◌, ◌*◌, ◌<◌, ◌≤◌, IfErr, IfOk, length, take};
+ghost use Rattle.section.specs.declared.shapes.Refusal.TheVariants.{TooManyVertices};
+ghost use Rattle.records.specs.Flattened.{flattened};
+ghost use Rattle.records.specs.Steps.{stored};
 
-use section::Vertex;
+use section::{Refusal, Vertex};
 
-// What stands in it does not matter: only the front that was written is read.
-pub fn blank() -> [f64; 512]
-    ensures { length result ≡ 512 }
+// Stores vertex i.
+fn put(items: &mut [f64; 512], i: usize, v: Vertex)
+    requires { i < 256 }
+    ensures { items.new ≡ stored i v items.old }
 {
-    [0.0; 512]
+    items[2 * i] = v.z;
+    items[2 * i + 1] = v.r;
 }
 
-// Stores vertex i of n and returns the next index; where there is no room for it, that is the end.
-pub fn put(items: &mut [f64; 512], i: usize, v: Vertex, n: usize) -> usize
-    ensures { (result ≡ next i n) × (items.new ≡ stored i v items.old) }
+// Copies the vertices to the front of the array, which has room for 256, and says how many numbers they
+// have.
+pub fn flatten(section: &[Vertex], items: &mut [f64; 512]) -> Result<usize, Refusal>
+    ensures front { IfOk result (λ n. (n ≤ 512) × (take n items.new ≡ flattened section.now)) }
+    ensures many { IfErr result (λ e. (e ≡ TooManyVertices) × (256 < length section.now)) }
 {
-    if i < 256 {
-        items[2 * i] = v.z;
-        items[2 * i + 1] = v.r;
-        return i + 1;
+    let n = section.len();
+    if n > 256 {
+        return Err(Refusal::TooManyVertices);
     }
-    n
-}
-
-// How many numbers n vertices have.
-pub fn numbers_of(n: usize) -> usize
-    requires { n ≤ 256 }
-    ensures { result ≡ 2 * n }
-{
-    2 * n
+    for i in 0..n {
+        put(items, i, section[i]);
+    }
+    Ok(2 * n)
 }

@@ -1,15 +1,13 @@
 // Bodies and answers as the C interface has them: records of numbers, as C lays them out.
 ghost use Rattle.std.specs.Prelude.{◌≡◌};
-ghost use Rattle.section.specs.profile.Replies.{OfValue};
-ghost use Rattle.section.specs.Answers.{told};
+ghost use Rattle.section.specs.profile.Replies.{OfValue, told};
 ghost use Rattle.section.specs.Demand.{FewEdges};
-ghost use Rattle.walk.specs.cylinders.Cylinders.{told as cylinder_told};
 ghost use Rattle.records.specs.Replies as replies;
 ghost use Rattle.records.specs.Steps.{FewEdgesOf};
 
 use arith::Vec3;
-use section::{Aabb, Answer, Sphere};
-use walk::{CountedAnswer, Cylinder};
+use section::{Aabb, CollisionHit, Refusal, Sphere};
+use walk::{CountedHit, Cylinder};
 
 #[repr(C)]
 #[derive(Clone, Copy)]
@@ -75,62 +73,70 @@ pub struct CylinderReply {
     pub cut: bool,
 }
 
-pub fn point_of(place: Place) -> Vec3
-    ensures { result ≡ replies.point_of place }
-{
-    Vec3 {
-        x: place.x,
-        y: place.y,
-        z: place.z,
+impl From<Place> for Vec3 {
+    ghost from_gives = { λ place point. point ≡ replies.point_of place };
+
+    fn from(place: Place) -> Vec3 {
+        Vec3 {
+            x: place.x,
+            y: place.y,
+            z: place.z,
+        }
     }
 }
 
-pub fn sphere_of(ball: Ball) -> Sphere
-    ensures { result ≡ replies.sphere_of ball }
-{
-    let center = Vec3 {
-        x: ball.x,
-        y: ball.y,
-        z: ball.z,
-    };
-    let radius = ball.radius;
-    Sphere { center, radius }
-}
+impl From<Ball> for Sphere {
+    ghost from_gives = { λ ball sphere. sphere ≡ replies.sphere_of ball };
 
-pub fn box_of(bounds: Bounds) -> Aabb
-    ensures { result ≡ replies.box_of bounds }
-{
-    Aabb {
-        z0: bounds.z0,
-        z1: bounds.z1,
-        r0: bounds.r0,
-        r1: bounds.r1,
+    fn from(ball: Ball) -> Sphere {
+        let center = Vec3 {
+            x: ball.x,
+            y: ball.y,
+            z: ball.z,
+        };
+        let radius = ball.radius;
+        Sphere { center, radius }
     }
 }
 
-pub fn cylinder_of(bar: Bar) -> Cylinder
-    ensures { result ≡ replies.cylinder_of bar }
-{
-    let a = Vec3 {
-        x: bar.ax,
-        y: bar.ay,
-        z: bar.az,
-    };
-    let b = Vec3 {
-        x: bar.bx,
-        y: bar.by,
-        z: bar.bz,
-    };
-    let radius = bar.radius;
-    Cylinder { a, b, radius }
+impl From<Bounds> for Aabb {
+    ghost from_gives = { λ bounds x. x ≡ replies.box_of bounds };
+
+    fn from(bounds: Bounds) -> Aabb {
+        Aabb {
+            z0: bounds.z0,
+            z1: bounds.z1,
+            r0: bounds.r0,
+            r1: bounds.r1,
+        }
+    }
 }
 
-pub fn reply_of(answer: Answer) -> Reply
+impl From<Bar> for Cylinder {
+    ghost from_gives = { λ bar cylinder. cylinder ≡ replies.cylinder_of bar };
+
+    fn from(bar: Bar) -> Cylinder {
+        let a = Vec3 {
+            x: bar.ax,
+            y: bar.ay,
+            z: bar.az,
+        };
+        let b = Vec3 {
+            x: bar.bx,
+            y: bar.by,
+            z: bar.bz,
+        };
+        let radius = bar.radius;
+        Cylinder { a, b, radius }
+    }
+}
+
+pub fn reply_of(answer: Result<CollisionHit, Refusal>) -> Reply
     requires { OfValue FewEdges (told answer) }
     ensures { result ≡ replies.c_reply (told answer) }
 {
     match answer {
-        Answer::Hit(h) => {
+        Ok(h) => {
             let at = h.witness;
             let edge = at.edge as u32;
             Reply {
@@ -141,22 +147,22 @@ pub fn reply_of(answer: Answer) -> Reply
                 number: 0,
             }
         }
-        Answer::Refused(number) => Reply {
+        Err(refusal) => Reply {
             distance: 0.0,
             witness_z: 0.0,
             witness_radius: 0.0,
             edge: 0,
-            number,
+            number: refusal.number(),
         },
     }
 }
 
-pub fn cylinder_reply_of(answer: CountedAnswer) -> CylinderReply
-    requires { OfValue FewEdgesOf (cylinder_told answer) }
-    ensures { result ≡ replies.c_cylinder_reply (cylinder_told answer) }
+pub fn cylinder_reply_of(answer: Result<CountedHit, Refusal>) -> CylinderReply
+    requires { OfValue FewEdgesOf (told answer) }
+    ensures { result ≡ replies.c_cylinder_reply (told answer) }
 {
     match answer {
-        CountedAnswer::Hit(h) => {
+        Ok(h) => {
             let hit = h.hit;
             let at = hit.witness;
             let edge = at.edge as u32;
@@ -171,14 +177,14 @@ pub fn cylinder_reply_of(answer: CountedAnswer) -> CylinderReply
                 cut: h.cut,
             }
         }
-        CountedAnswer::Refused(number) => CylinderReply {
+        Err(refusal) => CylinderReply {
             distance: 0.0,
             witness_z: 0.0,
             witness_radius: 0.0,
             edge: 0,
             boxes: 0,
             waiting: 0,
-            number,
+            number: refusal.number(),
             cut: false,
         },
     }

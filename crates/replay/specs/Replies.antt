@@ -7,9 +7,9 @@ use Rattle.replay.specs.declared.ask.Reply.TheVariants.{Number, Hit, Walked, Ver
 abbrev pub kept : Reply → ℕ
 kept (Kept n) = n
 kept (Number x) = 0
-kept (Hit d z r edge) = 0
-kept (Walked d z r edge boxes waiting cut) = 0
-kept (Verdict collision) = 0
-kept (Refused number) = 0
+kept (Hit hit) = 0
+kept (Walked walked) = 0
+kept (Verdict verdict) = 0
+kept (Refused refusal) = 0
 kept Damaged = 0
 kept Malformed = 0

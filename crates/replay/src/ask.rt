@@ -7,8 +7,8 @@ use super::bits::pattern;
 use super::table::Kind;
 use arith::Vec3;
 use bodies::Verdict;
-use section::{Aabb, Answer, Kept, Sphere};
-use walk::{CountedAnswer, Cylinder, Settings};
+use section::{Aabb, CollisionHit, Refusal, Sphere};
+use walk::{CountedHit, Cylinder, Settings};
 
 // What every number of a builder's space is before the call.
 pub const BLANK: f64 = 100.0;
@@ -16,15 +16,12 @@ pub const BLANK: f64 = 100.0;
 #[derive(Clone, Copy)]
 pub enum Reply {
     Number(f64),
-    // A distance, its witness's z and radius, and the witness's edge.
-    Hit(f64, f64, f64, usize),
-    // The same, how many boxes were measured, how many pieces waited, and whether the walk was cut.
-    Walked(f64, f64, f64, usize, usize, usize, bool),
-    // Whether the body collides.
-    Verdict(bool),
+    Hit(CollisionHit),
+    Walked(CountedHit),
+    Verdict(Verdict),
     // How many numbers a builder keeps, at the front of its space.
     Kept(usize),
-    Refused(u32),
+    Refused(Refusal),
     // A builder wrote where it has to leave the space as it was.
     Damaged,
     Malformed,
@@ -59,11 +56,7 @@ fn cylinder(v: &[f64; 16]) -> Cylinder {
 
 // The whole number whose pattern a number has; what is past a u32 counts as the largest.
 fn whole(x: f64) -> u32 {
-    let n = pattern(x);
-    if n <= 4294967295 {
-        return n as u32;
-    }
-    4294967295
+    pattern(x).min(4294967295) as u32
 }
 
 fn settings(v: &[f64; 16]) -> Settings {
@@ -74,68 +67,45 @@ fn settings(v: &[f64; 16]) -> Settings {
     }
 }
 
-fn hit(answer: Answer) -> Reply
+fn hit(answer: Result<CollisionHit, Refusal>) -> Reply
     ensures { kept result ≡ 0 }
 {
     match answer {
-        Answer::Hit(hit) => {
-            let at = hit.witness;
-            Reply::Hit(hit.distance, at.z, at.r, at.edge)
-        }
-        Answer::Refused(number) => Reply::Refused(number),
+        Ok(hit) => Reply::Hit(hit),
+        Err(refusal) => Reply::Refused(refusal),
     }
 }
 
-fn walked(answer: CountedAnswer) -> Reply
+fn walked(answer: Result<CountedHit, Refusal>) -> Reply
     ensures { kept result ≡ 0 }
 {
     match answer {
-        CountedAnswer::Hit(walked) => {
-            let hit = walked.hit;
-            let at = hit.witness;
-            Reply::Walked(
-                hit.distance,
-                at.z,
-                at.r,
-                at.edge,
-                walked.boxes,
-                walked.waiting,
-                walked.cut,
-            )
-        }
-        CountedAnswer::Refused(number) => Reply::Refused(number),
+        Ok(walked) => Reply::Walked(walked),
+        Err(refusal) => Reply::Refused(refusal),
     }
 }
 
-fn judged(verdict: Verdict) -> Reply
+fn judged(verdict: Result<Verdict, Refusal>) -> Reply
     ensures { kept result ≡ 0 }
 {
     match verdict {
-        Verdict::Clear => Reply::Verdict(false),
-        Verdict::Collision => Reply::Verdict(true),
-        Verdict::Refused(number) => Reply::Refused(number),
+        Ok(verdict) => Reply::Verdict(verdict),
+        Err(refusal) => Reply::Refused(refusal),
     }
 }
 
 // Whether a number is no longer blank.
 fn any_written(rest: &[f64]) -> bool {
-    let mut i = 0;
-    while i < rest.len() {
-        if rest[i] != BLANK {
-            return true;
-        }
-        i += 1;
-    }
-    false
+    rest.iter().any(|x| *x != BLANK)
 }
 
 // A builder's space has to be blank behind what it keeps, and all of it where it refuses; the part
 // that it hands back has what it keeps.
-fn built(answer: Kept, part: usize, space: &[f64]) -> Reply
+fn built(answer: Result<usize, Refusal>, part: usize, space: &[f64]) -> Reply
     ensures { kept result ≤ length space.now }
 {
     match answer {
-        Kept::Numbers(n) => {
+        Ok(n) => {
             if space.len() < n {
                 return Reply::Damaged;
             }
@@ -147,53 +117,15 @@ fn built(answer: Kept, part: usize, space: &[f64]) -> Reply
             }
             Reply::Kept(n)
         }
-        Kept::Refused(number) => {
+        Err(refusal) => {
             if part != 0 {
                 return Reply::Damaged;
             }
             if any_written(space) {
                 return Reply::Damaged;
             }
-            Reply::Refused(number)
+            Reply::Refused(refusal)
         }
-    }
-}
-
-// The kinds of one letter.
-fn plain(letter: u8, s: &[f64], t: &[f64], v: &[f64; 16], space: &mut [f64]) -> Reply
-    ensures { kept result ≤ length space.new }
-{
-    match letter {
-        b'r' => Reply::Number(arith::sqrt(v[0])),
-        b'h' => Reply::Number(arith::hypot(v[0], v[1])),
-        b'p' => hit(section::signed_distance(s, vector(v[0], v[1], v[2]))),
-        b's' => hit(section::query_sphere(s, sphere(v))),
-        b'b' => hit(section::aabb_polygon_distance(v[0], v[1], v[2], v[3], s)),
-        b'c' => hit(section::convex_polygon_distance(s, t)),
-        b'y' => walked(walk::query_cylinder(s, cylinder(v), walk::finest())),
-        b'S' => {
-            let part = section::try_from_section(s, space).len();
-            built(section::write_section(s, space), part, space)
-        }
-        b'P' => {
-            let part = section::try_from_polygon(s, space).len();
-            built(section::write_polygon(s, space), part, space)
-        }
-        b'w' => walked(walk::query_cylinder(s, cylinder(v), settings(v))),
-        _ => Reply::Malformed,
-    }
-}
-
-// The verdicts, by the letter behind the `v`.
-fn verdict(letter: u8, s: &[f64], t: &[f64], v: &[f64; 16]) -> Reply
-    ensures { kept result ≡ 0 }
-{
-    match letter {
-        b's' => judged(bodies::verdict_sphere(s, sphere(v), v[4])),
-        b'b' => judged(bodies::verdict_box(s, aabb(v), v[4])),
-        b'c' => judged(bodies::verdict_convex(t, s, v[0])),
-        b'y' => judged(bodies::verdict_cylinder(s, cylinder(v), v[7])),
-        _ => Reply::Malformed,
     }
 }
 
@@ -203,7 +135,25 @@ pub fn ask(kind: Kind, s: &[f64], t: &[f64], v: &[f64; 16], space: &mut [f64]) -
     ensures { kept result ≤ length space.new }
 {
     match kind {
-        Kind::Plain(letter) => plain(letter, s, t, v, space),
-        Kind::Verdict(letter) => verdict(letter, s, t, v),
+        Kind::Root => Reply::Number(arith::sqrt(v[0])),
+        Kind::Hypot => Reply::Number(arith::hypot(v[0], v[1])),
+        Kind::Point => hit(section::signed_distance(s, vector(v[0], v[1], v[2]))),
+        Kind::Sphere => hit(section::query_sphere(s, sphere(v))),
+        Kind::Box => hit(section::aabb_polygon_distance(v[0], v[1], v[2], v[3], s)),
+        Kind::Convex => hit(section::convex_polygon_distance(s, t)),
+        Kind::Cylinder => walked(walk::query_cylinder(s, cylinder(v), walk::finest())),
+        Kind::Walk => walked(walk::query_cylinder(s, cylinder(v), settings(v))),
+        Kind::Section => {
+            let part = section::try_from_section(s, space).len();
+            built(section::write_section(s, space), part, space)
+        }
+        Kind::Polygon => {
+            let part = section::try_from_polygon(s, space).len();
+            built(section::write_polygon(s, space), part, space)
+        }
+        Kind::VerdictSphere => judged(bodies::verdict_sphere(s, sphere(v), v[4])),
+        Kind::VerdictBox => judged(bodies::verdict_box(s, aabb(v), v[4])),
+        Kind::VerdictConvex => judged(bodies::verdict_convex(t, s, v[0])),
+        Kind::VerdictCylinder => judged(bodies::verdict_cylinder(s, cylinder(v), v[7])),
     }
 }

@@ -1,19 +1,24 @@
 // Lines of an input, in a buffer.
-ghost use Rattle.std.specs.Prelude.{◌≡◌, ◌≤◌, IfOk, OnErr, length};
+ghost use Rattle.std.specs.Prelude.{◌≡◌, ◌≤◌, IfOk, IfSome, OnErr, length};
 ghost use Rattle.replay.specs.Lines.{Within};
 
 use std::io;
 use std::io::Read;
 
+// The bytes of the buffer from `from` up to `to`.
+#[derive(Clone, Copy)]
+pub struct Line {
+    pub from: usize,
+    pub to: usize,
+}
+
 // What is read and not yet answered, the bytes of the buffer from start up to end; the next line, if
-// one is found, from `from` up to `to`; and whether the input has ended.
+// one is found; and whether the input has ended.
 #[derive(Clone, Copy)]
 pub struct Held {
     pub start: usize,
     pub end: usize,
-    pub found: bool,
-    pub from: usize,
-    pub to: usize,
+    pub line: Option<Line>,
     pub ended: bool,
 }
 
@@ -22,12 +27,10 @@ fn line_end(buf: &[u8], start: usize, end: usize) -> usize
     requires { (start ≤ end) × (end ≤ length buf.now) }
     ensures { (start ≤ result) × (result ≤ end) }
 {
-    let mut i = start;
-    while i < end {
+    for i in start..end {
         if buf[i] == b'\n' {
             return i;
         }
-        i += 1;
     }
     end
 }
@@ -38,10 +41,8 @@ fn to_front(buf: &mut [u8], start: usize, end: usize) -> usize
     ensures { result ≤ end }
 {
     let n = end - start;
-    let mut i = 0;
-    while i < n {
+    for i in 0..n {
         buf[i] = buf[start + i];
-        i += 1;
     }
     n
 }
@@ -55,6 +56,16 @@ fn read_more<R: Read>(reader: &mut R, buf: &mut [u8], n: usize) -> io::Result<us
 {
     let got = reader.read(&mut buf[n..])?;
     Ok(n + got)
+}
+
+// Where the input has ended, the kept bytes at the front are the last line, if there are any.
+fn last_line(ended: bool, kept: usize) -> Option<Line>
+    ensures { IfSome result (λ line. (line.from ≤ line.to) × (line.to ≤ kept)) }
+{
+    if ended && 0 < kept {
+        return Some(Line { from: 0, to: kept });
+    }
+    None
 }
 
 // Finds the next line, or reads more where none is whole. What the input ends with, or what fills the
@@ -74,9 +85,10 @@ pub fn next_line<R: Read>(
         return Ok(Held {
             start: stop + 1,
             end,
-            found: true,
-            from: start,
-            to: stop,
+            line: Some(Line {
+                from: start,
+                to: stop,
+            }),
             ended: false,
         });
     }
@@ -86,9 +98,7 @@ pub fn next_line<R: Read>(
     Ok(Held {
         start: 0,
         end: filled,
-        found: ended && 0 < kept,
-        from: 0,
-        to: kept,
+        line: last_line(ended, kept),
         ended,
     })
 }

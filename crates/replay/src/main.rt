@@ -36,10 +36,13 @@ mod table;
 
 use ask::{BLANK, Reply, ask};
 use bits::pattern;
+use bodies::Verdict;
 use line::{Held, next_line};
 use parse::parse;
+use section::{CollisionHit, Refusal};
 use std::io;
 use std::io::{Read, Write};
+use walk::CountedHit;
 
 fn print_text<W: Write>(writer: &mut W, text: &[u8]) -> io::Result<()> {
     writer.write_all(text)
@@ -72,24 +75,20 @@ fn print_flag<W: Write>(writer: &mut W, flag: bool) -> io::Result<()> {
     }
 }
 
-fn print_hit<W: Write>(
-    writer: &mut W,
-    distance: f64,
-    z: f64,
-    r: f64,
-    edge: usize,
-) -> io::Result<()> {
-    print_number(writer, distance)?;
-    print_next(writer, z)?;
-    print_next(writer, r)?;
-    print_next_count(writer, edge)
+fn print_hit<W: Write>(writer: &mut W, hit: CollisionHit) -> io::Result<()> {
+    let witness = hit.witness;
+    print_number(writer, hit.distance)?;
+    print_next(writer, witness.z)?;
+    print_next(writer, witness.r)?;
+    print_next_count(writer, witness.edge)
 }
 
-fn print_walk<W: Write>(writer: &mut W, boxes: usize, waiting: usize, cut: bool) -> io::Result<()> {
-    print_next_count(writer, boxes)?;
-    print_next_count(writer, waiting)?;
+fn print_walked<W: Write>(writer: &mut W, walked: CountedHit) -> io::Result<()> {
+    print_hit(writer, walked.hit)?;
+    print_next_count(writer, walked.boxes)?;
+    print_next_count(writer, walked.waiting)?;
     print_text(writer, b" ")?;
-    print_flag(writer, cut)
+    print_flag(writer, walked.cut)
 }
 
 // How many numbers a builder keeps, and these.
@@ -101,22 +100,19 @@ fn print_kept<W: Write>(writer: &mut W, kept: &[f64]) -> io::Result<()> {
     Ok(())
 }
 
-fn print_refused<W: Write>(writer: &mut W, number: u32) -> io::Result<()> {
+fn print_refused<W: Write>(writer: &mut W, refusal: Refusal) -> io::Result<()> {
     print_text(writer, b"refused ")?;
-    print_count(writer, number as u64)
+    print_count(writer, refusal.number() as u64)
 }
 
 fn print<W: Write>(writer: &mut W, reply: Reply, kept: &[f64]) -> io::Result<()> {
     match reply {
         Reply::Number(x) => print_number(writer, x),
-        Reply::Hit(distance, z, r, edge) => print_hit(writer, distance, z, r, edge),
-        Reply::Walked(distance, z, r, edge, boxes, waiting, cut) => {
-            print_hit(writer, distance, z, r, edge)?;
-            print_walk(writer, boxes, waiting, cut)
-        }
-        Reply::Verdict(collision) => print_flag(writer, collision),
+        Reply::Hit(hit) => print_hit(writer, hit),
+        Reply::Walked(walked) => print_walked(writer, walked),
+        Reply::Verdict(verdict) => print_flag(writer, verdict == Verdict::Collision),
         Reply::Kept(_) => print_kept(writer, kept),
-        Reply::Refused(number) => print_refused(writer, number),
+        Reply::Refused(refusal) => print_refused(writer, refusal),
         Reply::Damaged => print_text(writer, b"damaged"),
         Reply::Malformed => print_text(writer, b"malformed"),
     }
@@ -139,17 +135,12 @@ fn reply_to(line: &[u8], space: &mut [f64]) -> Reply
     let mut first = [0.0; 1024];
     let mut second = [0.0; 1024];
     let mut numbers = [0.0; 16];
-    let query = parse(line, &mut first, &mut second, &mut numbers);
-    let n = query.n;
-    let m = query.m;
-    let k = query.k;
-    let kind = query.kind;
-    if query.whole {
-        let s = &first[0..n];
-        let t = &second[0..m];
-        return ask(kind, s, t, &numbers, &mut space[0..k]);
-    }
-    Reply::Malformed
+    let Some(query) = parse(line, &mut first, &mut second, &mut numbers) else {
+        return Reply::Malformed;
+    };
+    let s = &first[..query.n];
+    let t = &second[..query.m];
+    ask(query.kind, s, t, &numbers, &mut space[..query.k])
 }
 
 fn reply<W: Write>(writer: &mut W, line: &[u8]) -> io::Result<()> {
@@ -173,10 +164,8 @@ fn turn<R: Read, W: Write>(
     ensures failed { OnErr result (length buf.new ≡ length buf.old) }
 {
     let held = next_line(reader, buf, start, end)?;
-    let from = held.from;
-    let to = held.to;
-    if held.found {
-        reply(writer, &buf[from..to])?;
+    if let Some(line) = held.line {
+        reply(writer, &buf[line.from..line.to])?;
     }
     Ok(held)
 }

@@ -1,13 +1,24 @@
-// The table of the kinds of query: what the line of each holds. A new kind is a row here, and an arm
-// in ask.rt.
+// The kinds of query, and what the line of each holds. A new kind is a variant with its letters and its
+// row here, and an arm in ask.rt.
 ghost use Rattle.std.specs.Prelude.{◌≤◌};
 ghost use Rattle.replay.specs.Rows.{Fits};
 
-// A kind of one letter, or a verdict by the letter behind its `v`.
-#[derive(Clone, Copy)]
+#[derive(Clone, Copy, Debug, PartialEq, Eq)]
 pub enum Kind {
-    Plain(u8),
-    Verdict(u8),
+    Root,
+    Hypot,
+    Point,
+    Sphere,
+    Box,
+    Convex,
+    Cylinder,
+    Walk,
+    Section,
+    Polygon,
+    VerdictSphere,
+    VerdictBox,
+    VerdictConvex,
+    VerdictCylinder,
 }
 
 // In this order: 0 to 2 lists, 0 to 16 numbers, and the size of a builder's space or none.
@@ -29,42 +40,63 @@ fn holds(lists: usize, numbers: usize, sized: bool) -> Row
     }
 }
 
-fn plain(letter: u8) -> Row
-    ensures { Fits result }
-{
+// A verdict, by the letter behind its `v`.
+fn verdict_of(letter: u8) -> Option<Kind> {
     match letter {
-        b'r' => holds(0, 1, false),
-        b'h' => holds(0, 2, false),
-        b'p' => holds(1, 3, false),
-        b's' => holds(1, 4, false),
-        b'b' => holds(1, 4, false),
-        b'c' => holds(2, 0, false),
-        b'y' => holds(1, 7, false),
-        b'S' => holds(1, 0, true),
-        b'P' => holds(1, 0, true),
-        b'w' => holds(1, 10, false),
-        _ => holds(0, 0, false),
+        b's' => Some(Kind::VerdictSphere),
+        b'b' => Some(Kind::VerdictBox),
+        b'c' => Some(Kind::VerdictConvex),
+        b'y' => Some(Kind::VerdictCylinder),
+        _ => None,
     }
 }
 
-fn verdict(letter: u8) -> Row
-    ensures { Fits result }
-{
-    match letter {
-        b's' => holds(1, 5, false),
-        b'b' => holds(1, 5, false),
-        b'c' => holds(2, 1, false),
-        b'y' => holds(1, 8, false),
-        _ => holds(0, 0, false),
+impl Kind {
+    // That of a line which begins with these letters.
+    pub fn of(letter: u8, next: u8) -> Option<Kind> {
+        match letter {
+            b'r' => Some(Kind::Root),
+            b'h' => Some(Kind::Hypot),
+            b'p' => Some(Kind::Point),
+            b's' => Some(Kind::Sphere),
+            b'b' => Some(Kind::Box),
+            b'c' => Some(Kind::Convex),
+            b'y' => Some(Kind::Cylinder),
+            b'w' => Some(Kind::Walk),
+            b'S' => Some(Kind::Section),
+            b'P' => Some(Kind::Polygon),
+            b'v' => verdict_of(next),
+            _ => None,
+        }
     }
-}
 
-// A kind that there is not holds nothing.
-pub fn row_of(kind: Kind) -> Row
-    ensures { Fits result }
-{
-    match kind {
-        Kind::Plain(letter) => plain(letter),
-        Kind::Verdict(letter) => verdict(letter),
+    // How many letters it has.
+    pub fn letters(self) -> usize {
+        match self {
+            Kind::VerdictSphere | Kind::VerdictBox | Kind::VerdictConvex | Kind::VerdictCylinder =>
+                2,
+            _ => 1,
+        }
+    }
+
+    pub fn row(self) -> Row
+        ensures { Fits result }
+    {
+        match self {
+            Kind::Root => holds(0, 1, false),
+            Kind::Hypot => holds(0, 2, false),
+            Kind::Point => holds(1, 3, false),
+            Kind::Sphere => holds(1, 4, false),
+            Kind::Box => holds(1, 4, false),
+            Kind::Convex => holds(2, 0, false),
+            Kind::Cylinder => holds(1, 7, false),
+            Kind::Walk => holds(1, 10, false),
+            Kind::Section => holds(1, 0, true),
+            Kind::Polygon => holds(1, 0, true),
+            Kind::VerdictSphere => holds(1, 5, false),
+            Kind::VerdictBox => holds(1, 5, false),
+            Kind::VerdictConvex => holds(2, 1, false),
+            Kind::VerdictCylinder => holds(1, 8, false),
+        }
     }
 }

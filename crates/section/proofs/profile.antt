@@ -4,6 +4,7 @@ pub mod Fold
 pub mod Each
 pub mod Steps
 pub mod Numbers
+pub mod Numbered
 pub mod Nearest
 pub mod Refusals
 pub mod Replies

@@ -2,20 +2,13 @@
 use Rattle.std.specs.Prelude.{List, [], Float}
 use Rattle.arith.specs.declared.vector.Vec3.{Vec3}
 use Rattle.section.specs.profile.Refusals.{refusal, point_tests, sphere_tests, box_tests, convex_tests}
-use Rattle.section.specs.profile.Replies.{Reply, value, turned_down, reply}
+use Rattle.section.specs.profile.Replies.{Reply, reply}
 use Rattle.section.specs.declared.profile.shapes.Aabb.{Aabb}
 use Rattle.section.specs.declared.profile.shapes.Sphere.{Sphere}
 use Rattle.section.specs.declared.profile.shapes.CollisionHit.{CollisionHit}
 use Rattle.section.specs.points.Points.{meridian, point_distance, sphere_distance}
 use Rattle.section.specs.boxes.Boxes.{box_distance}
 use Rattle.section.specs.convex.Convex.{convex_distance}
-use Rattle.section.specs.declared.shapes.Answer.{Answer}
-use Rattle.section.specs.declared.shapes.Answer.TheVariants.{Hit, Refused}
-
--- what each case stands for
-abbrev pub told : Answer → Reply CollisionHit
-told (Hit h) = value h
-told (Refused n) = turned_down n
 
 unfoldable pub point_answer : List Float → Vec3 → Reply CollisionHit
 point_answer s p = reply (refusal (point_tests s p)) (point_distance s (meridian p))

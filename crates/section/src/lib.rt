@@ -16,8 +16,7 @@ mod shapes;
 mod signed;
 
 pub use builders::{
-    Kept, check_polygon, check_section, try_from_polygon, try_from_section, write_polygon,
-    write_section,
+    check_polygon, check_section, try_from_polygon, try_from_section, write_polygon, write_section,
 };
 pub use profile::{Aabb, CollisionHit, Edge, Sphere, Vertex, Witness};
 pub use queries::{aabb_polygon_distance, convex_polygon_distance, query_sphere, signed_distance};
@@ -25,7 +24,7 @@ pub use refusals::{
     alone_refusal, any_below_axis, body_refusal, bounds_refusal, box_refusal, convex_refusal,
     list_refusal, point_refusal, radius_refusal, sphere_refusal,
 };
-pub use shapes::Answer;
+pub use shapes::Refusal;
 
 // For the crates above.
 pub use aabb::{box_distance, box_distance_near};

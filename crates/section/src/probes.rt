@@ -4,4 +4,4 @@ mod reach;
 mod shapes;
 
 pub use probes::{deeper_probe, none_inside, odd_probes};
-pub use shapes::{Odd, Probes};
+pub use shapes::Probes;

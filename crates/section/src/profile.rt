@@ -5,4 +5,4 @@ mod vertices;
 pub use shapes::{Aabb, CollisionHit, Edge, Sphere, Vertex, Witness};
 
 // For the crates above.
-pub use vertices::{edge_at, end_at, nearer_of, on, vertex_at};
+pub use vertices::{any_edge, edge_at, end_at, nearer_of, on, vertex_at};

@@ -1,4 +1,4 @@
-// What is turned down: the tests of a call in their order, and the number of the first that is true.
+// What is turned down: the tests of a call in their order, and the first that is true.
 mod fine;
 mod refusal;
 

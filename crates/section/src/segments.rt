@@ -9,5 +9,5 @@ mod thresholds;
 pub use clip::clip_segment;
 pub use near::{hopeless, legless, nearer_near, too_far};
 pub use segment::{closer_between, closest_point, lerp, point_segment, seg_seg_point_on_first};
-pub use shapes::{Clip, Near};
+pub use shapes::{Near, Part};
 pub use thresholds::{BOUNDARY, INTERIOR};

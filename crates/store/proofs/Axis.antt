@@ -19,8 +19,7 @@ use Rattle.store.specs.Chain.{chain}
 use Rattle.store.specs.Kinds.{is_vertex, kinds_answer}
 use Rattle.store.specs.Radii.{below_axis, radii_answer}
 use Rattle.store.specs.Store.{and_then, numbered, length_answer, links_answer, vertices, section_answer, chained, store_answer}
-use Rattle.store.specs.declared.answers.StoreAnswer.{StoreAnswer}
-use Rattle.store.specs.declared.answers.StoreAnswer.TheVariants.{Accepted, Refused}
+use Rattle.store.specs.Answers.{StoreAnswer, Accepted, Refused}
 use Rattle.store.proofs.Numbers.{refused_by, links_other, first_other, section_other, second_alone}
 use Rattle.store.proofs.Reading.{accepted_sound}
 

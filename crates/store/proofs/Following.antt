@@ -11,13 +11,14 @@ use lib.ListN.{length, take, get_or, set, length-set, replicate, length-replicat
 use lib.Seq.{get_or-set_same, get_or-set_other, take-suc-set}
 use lib.Dec.{eqb, leb}
 use borrow.Author.Tests.{eq-eqb, ne_eqb, eqb-true, eqb-false, leb-false}
+use Rattle.std.specs.Prelude.{Ok, Err}
+use Rattle.section.specs.declared.shapes.Refusal.TheVariants.{BadLink}
 use Rattle.section.specs.profile.Refusals.{any_of}
 use Rattle.store.specs.Records.{records, next}
 use Rattle.store.specs.Chain.{Chain, whole, broken, member, follow, chain, in_order}
 use Rattle.store.specs.Store.{links_answer}
 use Rattle.store.specs.Steps.{ChainRoom, Visits, Fills}
 use Rattle.store.proofs.Filling.{fills_front, fills_refused}
-use Rattle.store.specs.declared.answers.Filled.TheVariants.{Front, Refused}
 
 -- n records are passed, in order, each with its mark, and record k is next
 pub record Following (b order : List ℕ) (marks : List Bool) (k n : ℕ) : Type 0 where
@@ -128,8 +129,8 @@ used_up {b} {order} {marks} {k} {n} now h = now.follows ∙ ap (λ (left : ℕ).
 
 -- what the answer says of the array
 module _ {c : Chain} {order : List ℕ} where
-  pub ended : {n : ℕ} → c ≡ whole (take n order) → n ≤ 512 → Fills (links_answer c) (in_order c) (Front n) order
+  pub ended : {n : ℕ} → c ≡ whole (take n order) → n ≤ 512 → Fills (links_answer c) (in_order c) (Ok n) order
   ended e h = rw e (fills_front refl refl h)
 
-  pub stopped : {k : ℕ} → c ≡ broken k → Fills (links_answer c) (in_order c) (Refused 13 k) order
+  pub stopped : {k : ℕ} → c ≡ broken k → Fills (links_answer c) (in_order c) (Err (record { refusal = BadLink; at = k })) order
   stopped e = rw e (fills_refused refl)

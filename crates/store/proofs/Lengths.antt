@@ -13,7 +13,7 @@ use Rattle.store.specs.Chain.{chain}
 use Rattle.store.specs.Kinds.{kinds_answer}
 use Rattle.store.specs.Radii.{radii_answer}
 use Rattle.store.specs.Store.{numbered, length_answer, links_answer, vertices, section_answer, chained, store_answer}
-use Rattle.store.specs.declared.answers.StoreAnswer.{StoreAnswer}
+use Rattle.store.specs.Answers.{StoreAnswer}
 use Rattle.store.proofs.Numbers.{refused_by, links_other, first_other, section_other, other_later, same_later, first_alone}
 
 -- a length of 1 to 512 records

@@ -1,6 +1,8 @@
 -- The laws that the proofs of the store's functions share.
 pub mod Patterns
 pub mod Lists
+pub mod LowFirst
+pub mod Handed
 pub mod Filling
 pub mod Following
 pub mod Ending

@@ -9,8 +9,7 @@ use Rattle.section.proofs.profile.Refusals.Ordered.{refusal_most}
 use Rattle.store.specs.First.{first_refused}
 use Rattle.store.specs.Chain.{Chain, whole, broken}
 use Rattle.store.specs.Store.{and_then, numbered, links_answer, section_answer}
-use Rattle.store.specs.declared.answers.StoreAnswer.{StoreAnswer}
-use Rattle.store.specs.declared.answers.StoreAnswer.TheVariants.{Accepted, Refused}
+use Rattle.store.specs.Answers.{StoreAnswer, Accepted, Refused}
 
 -- refused with a number of which the test is true
 abbrev pub refused_by : (ℕ → Bool) → StoreAnswer → Bool

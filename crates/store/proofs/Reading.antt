@@ -8,7 +8,10 @@ use lib.ListN.{length}
 use lib.Dec.{T, eqb, ltb, nltb→le}
 use lib.Ieee.{Float}
 use borrow.Author.Tests.{ne_eqb, lt-ltb, le-ltb}
+use Rattle.section.specs.declared.shapes.Refusal.{Refusal}
+use Rattle.section.specs.profile.Numbers.{refusal_number}
 use Rattle.section.specs.profile.Refusals.{◌when◌, any_of, list_tests, refusal}
+use Rattle.section.proofs.profile.Numbered.{above_zero}
 use Rattle.section.proofs.profile.Each.{All, nil, cons}
 use Rattle.section.proofs.profile.Refusals.Ordered.{Passes, none_applies}
 use Rattle.section.proofs.profile.Refusals.Passed.{Counted, list_counted}
@@ -17,8 +20,7 @@ use Rattle.store.specs.Chain.{Chain, whole, broken, chain, in_order}
 use Rattle.store.specs.Kinds.{kinds_answer}
 use Rattle.store.specs.Radii.{radii_answer}
 use Rattle.store.specs.Store.{and_then, length_answer, links_answer, vertices, numbered, section_answer, chained, store_answer}
-use Rattle.store.specs.declared.answers.StoreAnswer.{StoreAnswer}
-use Rattle.store.specs.declared.answers.StoreAnswer.TheVariants.{Accepted, Refused}
+use Rattle.store.specs.Answers.{StoreAnswer, Accepted, Refused}
 
 never : {n k : ℕ} → Refused n k ≡ Accepted → ⊥
 never e = let z : ◌≡◌ {A = ℕ} 0 1 = cc in omega arith
@@ -50,14 +52,20 @@ length_accepted n e = go (none_applies _ tt (none_numbered _ e))
           most = nltb→le 512 (n / 40) c;
         }
 
--- the section's number
-pub section_number : {t s : List Float} {n : ℕ} → t ≡ s → n ≡ refusal (list_tests 3 256 t) → section_answer s ≡ numbered n
-unfolding section_answer
-section_number e h = rw (← e, h)
-
-pub numbered_refused : (n : ℕ) → (n ≡ 0 → ⊥) → numbered n ≡ Refused n 0
+numbered_refused : (n : ℕ) → (n ≡ 0 → ⊥) → numbered n ≡ Refused n 0
 numbered_refused zero h = absurd (h refl)
 numbered_refused (suc n) h = refl
+
+-- the section's number
+pub section_refused :
+    {t s : List Float} (e : Refusal) → t ≡ s → refusal_number e ≡ refusal (list_tests 3 256 t)
+    → section_answer s ≡ Refused (refusal_number e) 0
+unfolding section_answer
+section_refused e same h = rw (← same, ← h) (numbered_refused _ (above_zero e))
+
+pub section_fine : {t s : List Float} → t ≡ s → 0 ≡ refusal (list_tests 3 256 t) → section_answer s ≡ Accepted
+unfolding section_answer
+section_fine same h = rw (← same, ← h)
 
 -- an accepted section has none of the numbers, and 3 to 256 vertices
 pub section_passes : (s : List Float) → section_answer s ≡ Accepted → refusal (list_tests 3 256 s) ≡ 0

@@ -1,7 +1,6 @@
 -- The first record of which a test is true.
 use Rattle.std.specs.Prelude.{ℕ, Bool, cond, List, [], ◌∷◌}
-use Rattle.store.specs.declared.answers.StoreAnswer.{StoreAnswer}
-use Rattle.store.specs.declared.answers.StoreAnswer.TheVariants.{Accepted, Refused}
+use Rattle.store.specs.Answers.{StoreAnswer, Accepted, Refused}
 
 -- number n with the first record of which the test is true, in the order of the list
 unfoldable pub first_refused : ℕ → (ℕ → Bool) → List ℕ → StoreAnswer

@@ -2,7 +2,16 @@
 use Rattle.std.specs.Prelude.{ℕ, Bool, not, ◌||◌, cond, List, eqb}
 use Rattle.store.specs.Records.{kind}
 use Rattle.store.specs.First.{first_refused}
-use Rattle.store.specs.declared.answers.StoreAnswer.{StoreAnswer}
+use Rattle.store.specs.Answers.{StoreAnswer}
+use Rattle.store.specs.declared.kinds.Kind.{Kind}
+use Rattle.store.specs.declared.kinds.Kind.TheVariants.{Start, Vertex, Sphere, Box}
+
+-- the number that stands for a kind in a record
+abbrev pub kind_number : Kind → ℕ
+kind_number Start = 0
+kind_number Vertex = 1
+kind_number Sphere = 2
+kind_number Box = 3
 
 abbrev pub is_vertex : List ℕ → ℕ → Bool
 is_vertex b k = eqb (kind b k) 1

@@ -5,7 +5,7 @@ use Rattle.arith.specs.F64.{◌≺◌, e_9}
 use Rattle.store.specs.Records.{number}
 use Rattle.store.specs.First.{first_refused}
 use Rattle.store.specs.Kinds.{is_vertex}
-use Rattle.store.specs.declared.answers.StoreAnswer.{StoreAnswer}
+use Rattle.store.specs.Answers.{StoreAnswer}
 
 -- a vertex that 6 meets
 unfoldable pub below_axis : List ℕ → ℕ → Bool

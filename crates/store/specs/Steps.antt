@@ -1,16 +1,10 @@
 -- What the functions behind the entry points ask of each other and promise.
-use Rattle.std.specs.Prelude.{ℕ, ◌+◌, ◌*◌, ◌/◌, ◌<◌, ◌≤◌, ◌^◌, Bool, true, cond, List, ◌≡◌, length, take, set, ltb, Float}
+use Rattle.std.specs.Prelude.{ℕ, ◌+◌, ◌*◌, ◌/◌, ◌≤◌, Bool, true, cond, List, ◌≡◌, length, take, set, ltb, Float, Result, Ok, Err}
 use Rattle.std.proofs.lemmas.List.Edits.{sets}
+use Rattle.section.specs.profile.Numbers.{refusal_number}
 use Rattle.store.specs.Records.{records, next}
-use Rattle.store.specs.declared.answers.StoreAnswer.{StoreAnswer}
-use Rattle.store.specs.declared.answers.StoreAnswer.TheVariants.{Accepted, Refused}
-use Rattle.store.specs.declared.answers.Filled.{Filled}
-use Rattle.store.specs.declared.answers.Filled.TheVariants.{Front, Refused as NotFilled}
-
--- r is v, a number of at most k bits
-pub record Reads (k v r : ℕ) : Type 0 where
-  pub value : r ≡ v
-  pub small : r < 2 ^ k
+use Rattle.store.specs.Answers.{StoreAnswer, Accepted, Refused}
+use Rattle.store.specs.declared.answers.RefusedStore.{RefusedStore}
 
 -- ---- the chain
 -- a store of 1 to 512 records, and the array for their order
@@ -52,6 +46,6 @@ pub record FilledTo {A : Type 0} (a : StoreAnswer) (xs : List A) (n : ℕ) (afte
   pub small : n ≤ 512
 
 -- r tells the answer a; where that is accepted, the list `after` begins with xs
-pub record Fills {A : Type 0} (a : StoreAnswer) (xs : List A) (r : Filled) (after : List A) : Type 0 where
-  pub accepted : (n : ℕ) → r ≡ Front n → FilledTo a xs n after
-  pub refused : (n k : ℕ) → r ≡ NotFilled n k → a ≡ Refused n k
+pub record Fills {A : Type 0} (a : StoreAnswer) (xs : List A) (r : Result ℕ RefusedStore) (after : List A) : Type 0 where
+  pub accepted : (n : ℕ) → r ≡ Ok n → FilledTo a xs n after
+  pub refused : (e : RefusedStore) → r ≡ Err e → a ≡ Refused (refusal_number e.refusal) e.at

@@ -6,8 +6,7 @@ use Rattle.store.specs.Records.{number}
 use Rattle.store.specs.Chain.{Chain, whole, broken, chain, in_order}
 use Rattle.store.specs.Kinds.{is_vertex, kinds_answer}
 use Rattle.store.specs.Radii.{radii_answer}
-use Rattle.store.specs.declared.answers.StoreAnswer.{StoreAnswer}
-use Rattle.store.specs.declared.answers.StoreAnswer.TheVariants.{Accepted, Refused}
+use Rattle.store.specs.Answers.{StoreAnswer, Accepted, Refused}
 
 -- a refusal stands; otherwise what is tried next
 abbrev pub and_then : StoreAnswer → StoreAnswer → StoreAnswer

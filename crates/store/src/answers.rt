@@ -1,15 +1,27 @@
-// What reading and listing a store answer.
+// Why a store is turned down.
+ghost use Rattle.std.specs.Prelude.{◌≡◌};
 
-// A store is accepted, or refused with the number under which it is turned down and the record K.
-#[derive(Clone, Copy)]
-pub enum StoreAnswer {
-    Accepted,
-    Refused(u32, u32),
+use section::Refusal;
+
+// The refusal, and the record K that `refused N at K` names; 0 where no record is to blame.
+#[derive(Clone, Copy, Debug, PartialEq, Eq)]
+pub struct RefusedStore {
+    pub refusal: Refusal,
+    pub at: u32,
 }
 
-// How many places of a lent array are filled, from its front on, or the refusal.
-#[derive(Clone, Copy)]
-pub enum Filled {
-    Front(usize),
-    Refused(u32, u32),
+impl From<Refusal> for RefusedStore {
+    ghost from_gives = { λ e refused. refused ≡ record { refusal = e; at = 0 } };
+
+    fn from(refusal: Refusal) -> RefusedStore {
+        RefusedStore { refusal, at: 0 }
+    }
+}
+
+impl From<RefusedStore> for Refusal {
+    ghost from_gives = { λ e refusal. refusal ≡ e.refusal };
+
+    fn from(refused: RefusedStore) -> Refusal {
+        refused.refusal
+    }
 }

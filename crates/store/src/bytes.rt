@@ -4,26 +4,24 @@ ghost use Rattle.std.specs.Float.{binary64};
 ghost use Rattle.std.specs.Float.Ieee.{of_bits};
 ghost use Rattle.store.specs.Bytes.{little_endian, u32_at};
 ghost use Rattle.store.specs.Records.{next, kind, number};
-ghost use Rattle.store.specs.Steps.{Reads};
 
 // 0 past the end
-fn byte_at(b: &[u8], i: usize) -> u64
-    ensures { Reads 8 (get_or b.now i 0) result }
+fn byte_at(b: &[u8], i: usize) -> u8
+    ensures { result ≡ get_or b.now i 0 }
 {
-    if i < b.len() {
-        return b[i] as u64;
-    }
-    0
+    b.get(i).copied().unwrap_or(0)
 }
 
-fn u32_at(b: &[u8], i: usize) -> u64
+fn u32_at(b: &[u8], i: usize) -> u32
     requires { i < 2 ^ 40 }
-    ensures { Reads 32 (u32_at b.now i) result }
+    ensures { result ≡ u32_at b.now i }
 {
-    let i1 = i + 1;
-    let i2 = i1 + 1;
-    let i3 = i2 + 1;
-    byte_at(b, i) + 256 * (byte_at(b, i1) + 256 * (byte_at(b, i2) + 256 * byte_at(b, i3)))
+    u32::from_le_bytes([
+        byte_at(b, i),
+        byte_at(b, i + 1),
+        byte_at(b, i + 2),
+        byte_at(b, i + 3),
+    ])
 }
 
 pub fn u64_at(b: &[u8], i: usize) -> u64
@@ -31,8 +29,8 @@ pub fn u64_at(b: &[u8], i: usize) -> u64
     ensures { result ≡ little_endian 8 b.now i }
 {
     let low = u32_at(b, i);
-    let high = u32_at(b, i + 1 + 1 + 1 + 1);
-    low + 4294967296 * high
+    let high = u32_at(b, i + 4);
+    u64::from(low) + 4294967296 * u64::from(high)
 }
 
 // Every NaN pattern is NaN.
@@ -48,13 +46,13 @@ fn float_of(bits: u64) -> f64
 pub fn next_of(store: &[u8], k: u32) -> u32
     ensures { result ≡ next store.now k }
 {
-    u32_at(store, k as usize * 40) as u32
+    u32_at(store, k as usize * 40)
 }
 
 pub fn kind_of(store: &[u8], k: u32) -> u32
     ensures { result ≡ kind store.now k }
 {
-    u32_at(store, k as usize * 40 + 4) as u32
+    u32_at(store, k as usize * 40 + 4)
 }
 
 // One of the four f64 of a record.

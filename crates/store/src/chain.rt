@@ -4,8 +4,9 @@ ghost use Rattle.store.specs.Chain.{chain, in_order};
 ghost use Rattle.store.specs.Store.{links_answer};
 ghost use Rattle.store.specs.Steps.{ChainRoom, Visits, Fills};
 
-use super::answers::Filled;
+use super::answers::RefusedStore;
 use super::bytes::next_of;
+use section::Refusal;
 
 // Marks record k and reads its next.
 fn visit(store: &[u8], marks: &mut [bool], k: u32) -> u32
@@ -29,25 +30,26 @@ fn is_bad(marks: &[bool], count: usize, next: u32) -> bool
 }
 
 // Puts the chained records into order, one behind the other.
-pub fn follow_chain(store: &[u8], order: &mut [u32]) -> Filled
+pub fn follow_chain(store: &[u8], order: &mut [u32]) -> Result<usize, RefusedStore>
     requires { ChainRoom store.now order.old }
     ensures { let c = chain store.now in Fills (links_answer c) (in_order c) result order.new }
 {
     let count = store.len() / 40;
     let mut marks = [false; 512];
     let mut k: u32 = 0;
-    let mut n = 0;
-    while n < count {
+    for n in 0..count {
         order[n] = k;
-        n += 1;
         let next = visit(store, &mut marks, k);
         if next == 0 {
-            return Filled::Front(n);
+            return Ok(n + 1);
         }
         if is_bad(&marks, count, next) {
-            return Filled::Refused(13, k);
+            break;
         }
         k = next;
     }
-    Filled::Refused(13, k)
+    Err(RefusedStore {
+        refusal: Refusal::BadLink,
+        at: k,
+    })
 }

@@ -5,7 +5,7 @@ mod judging;
 mod searching;
 mod shapes;
 
-pub use shapes::{Edit, EditAnswer, Place, Role};
+pub use shapes::{Edit, Place, Role};
 
 // For the crates above.
 pub use allowing::{add_not_allowed, replace_not_allowed};

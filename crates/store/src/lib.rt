@@ -9,14 +9,13 @@ mod kinds;
 mod reader;
 mod store_edits;
 
-pub use answers::StoreAnswer;
-pub use edits::{Edit, EditAnswer, Place, Role};
+pub use answers::RefusedStore;
+pub use edits::{Edit, Place, Role};
 pub use reader::{length_answer, read_chain, read_section, read_store};
 pub use store_edits::edit_store;
 
 // For the crates above.
-pub use answers::Filled;
 pub use bytes::{kind_of, next_of, number_of, u64_at};
 pub use chain::follow_chain;
 pub use edits::put;
-pub use kinds::kinds_answer;
+pub use kinds::{Kind, is_kind, kinds_answer};

@@ -1,4 +1,4 @@
-// What a store says: accepted, or the number and the record that it is refused with; its chain and its section.
+// What a store says: accepted, or what it is refused for, and the record; its chain and its section.
 mod radii;
 mod reader;
 mod vertices;

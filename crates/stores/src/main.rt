@@ -4,22 +4,16 @@
 // program with its error.
 #![tactic(auto)]
 
-ghost use Rattle.std.specs.Prelude.{◌≡◌, ◌<◌};
+ghost use Rattle.std.specs.Prelude.{◌≡◌};
 ghost use Rattle.store.specs.Bytes.{u32_at};
 
 use std::io;
 use std::io::{Read, Write};
 
-fn wide(x: u8) -> usize
-    ensures { (result ≡ x) × (result < 256) }
-{
-    x as usize
-}
-
 fn length_of(head: &[u8; 4]) -> usize
     ensures { result ≡ u32_at head.now 0 }
 {
-    wide(head[0]) + 256 * (wide(head[1]) + 256 * (wide(head[2]) + 256 * wide(head[3])))
+    u32::from_le_bytes(*head) as usize
 }
 
 fn write_listing<W: Write>(writer: &mut W, buffer: &[u8; 20480], n: usize) -> io::Result<()> {

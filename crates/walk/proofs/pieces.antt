@@ -1,3 +1,3 @@
--- Laws of the array in which pieces wait, and of what is known at their ends.
-pub mod Stored
+-- The pieces that wait (Stacked), and what is known at the ends of pieces (KnownEnds).
+pub mod Stacked
 pub mod KnownEnds

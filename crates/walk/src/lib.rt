@@ -10,10 +10,10 @@ mod shapes;
 mod walker;
 
 pub use bands::{Axis, Cylinder, RadialBand, Span, axial_box, axis_of, exchanged};
-pub use cylinders::{CountedAnswer, query_cylinder};
+pub use cylinders::query_cylinder;
 pub use samples::sampled;
 pub use settings::{Settings, finest, settings_refusal};
 pub use shapes::CountedHit;
 
 // For the crates above.
-pub use cylinders::{cylinder_check, cylinder_distance, cylinder_refusal, own_refusal};
+pub use cylinders::{cylinder_distance, cylinder_refusal, own_refusal};

@@ -2,9 +2,11 @@
 mod ends;
 mod pieces;
 mod shapes;
+mod slabs;
 mod waiting;
 
-pub use ends::{ends_of, next_ends};
-pub use pieces::{measure, whole_width};
-pub use shapes::{Ends, Measured, Piece};
-pub use waiting::{push, push_halves};
+pub use ends::cross_at;
+pub use pieces::whole_width;
+pub use shapes::{Measured, Part, Piece};
+pub use slabs::Slab;
+pub use waiting::Waiting;

@@ -53,10 +53,8 @@ pub fn sampled(s: &[f64], b: RadialBand, n: usize) -> CollisionHit
             edge: 0,
         },
     };
-    let mut i = 0;
-    while i <= n {
+    for i in 0..n + 1 {
         best = sample_at(s, b, sample_z(b, n, i), best);
-        i += 1;
     }
     best
 }

@@ -1,5 +1,5 @@
 -- What the functions behind the roots promise each other of whole numbers and bits.
-use Rattle.std.specs.Prelude.{◌≡◌, ℕ, ◌+◌, ◌-◌, ◌*◌, ◌/◌, ◌%◌, ◌^◌, ◌<◌, ◌≤◌, from_bits}
+use Rattle.std.specs.Prelude.{◌≡◌, ℕ, ◌+◌, ◌-◌, ◌*◌, ◌/◌, ◌%◌, ◌^◌, ◌<◌, ◌≤◌, Bool, true, false, from_bits}
 use Rattle.std.specs.Float.{binary64}
 use Rattle.arith.specs.roots.Roots.{root, sqrt}
 use Rattle.arith.specs.declared.roots.wide.Parts.{Parts}
@@ -11,12 +11,6 @@ sq x = x * x
 -- ---- numbers in two limbs
 abbrev pub whole : Wide → ℕ
 whole z = z.hi * 2 ^ 56 + z.lo
-
--- z is the number v, in limbs of at most h and l bits
-pub record Limbs (v h l : ℕ) (z : Wide) : Type 0 where
-  pub value : whole z ≡ v
-  pub hi_small : z.hi < 2 ^ h
-  pub lo_small : z.lo < 2 ^ l
 
 -- ---- numbers in three parts
 abbrev pub total : Parts → ℕ
@@ -33,9 +27,6 @@ pub record PartsOf (v : ℕ) (z : Parts) : Type 0 where
 pub record AboutParts (v : ℕ) (z : Parts) : Type 0 where
   pub least : total z ≤ v
   pub most : v ≤ total z + 1
-  pub h_small : z.h < 2 ^ 54
-  pub m_small : z.m < 2 ^ 56
-  pub l_small : z.l < 2 ^ 58
 
 -- ---- candidates
 -- 53 bits, the highest set
@@ -49,15 +40,12 @@ pub record NearestHalf (z j : ℕ) : Type 0 where
   pub over : 4 * (j * j) + 1 < z + 4 * j
   pub under : z < 4 * (j * j) + 4 * j + 1
 
--- the same of k - 1, with no subtraction: (2k - 3)^2 < z and z < (2k - 1)^2
-pub record NearestHalfBelow (z k : ℕ) : Type 0 where
-  pub over : 4 * (k * k) + 9 < z + 12 * k
-  pub under : z + 4 * k < 4 * (k * k) + 1
-
--- of k - 1, k and k + 1 the one that r counts from 0 is nearest; 3 says nothing
-pub record NearestOfThree (z k r : ℕ) : Type 0 where
-  pub choice : r < 4
-  pub nearest : r < 3 → NearestHalfBelow z (k + r)
+-- j is one of k - 1, k and k + 1, and nearest to half the root of every number from z up to, and not with, z + 2
+pub record NearestOfThree (z k j : ℕ) : Type 0 where
+  pub least : k ≤ j + 1
+  pub most : j ≤ k + 1
+  pub nearest : NearestHalf z j
+  pub nearest_next : NearestHalf (z + 1) j
 
 -- Candidates are counted: k stands for k up to 2^53, and from there for every other number. m is twice the middle of k and the
 -- next one. The root of z, or of a bit more than z where t is not 0, lies above m, or at it with k odd; and the contrary.
@@ -77,11 +65,10 @@ pub record RoundsDown (z t k : ℕ) : Type 0 where
   pub low : k < 2 ^ 53 → RoundsDownAt z t k (2 * k + 1)
   pub high : 2 ^ 53 ≤ k → RoundsDownAt z t k (4 * k + 2 - 2 ^ 54)
 
--- r is 1 or 0, and tells which of the two holds
-pub record Tells (Up Down : Type 0) (r : ℕ) : Type 0 where
-  pub bit : r < 2
-  pub one : r ≡ 1 → Up
-  pub nought : r ≡ 0 → Down
+-- r tells which of the two holds
+pub record Tells (Up Down : Type 0) (r : Bool) : Type 0 where
+  pub up : r ≡ true → Up
+  pub down : r ≡ false → Down
 
 -- the root rounds to a candidate above lo and up to hi
 pub record Between (z t lo hi : ℕ) : Type 0 where
@@ -140,11 +127,6 @@ pub record Operands (least end big small : ℕ) : Type 0 where
   pub ordered : small ≤ big
   pub fine : big < end * 2 ^ 52
 
--- x where a is less than b, otherwise y
-pub record Picks (a b x y r : ℕ) : Type 0 where
-  pub less : a < b → r ≡ x
-  pub not_less : b ≤ a → r ≡ y
-
 -- r is the pattern of the hypotenuse of p and q
 pub record HypotIs (p q r : ℕ) : Type 0 where
   pub fine : r ≤ 2047 * 2 ^ 52
@@ -156,11 +138,10 @@ pub record FiniteHypotIs (p q r : ℕ) : Type 0 where
   pub q_fine : q < 2047 * 2 ^ 52
   pub hypot_is : HypotIs p q r
 
--- t is 0 where 4 ^ d divides the square of 2 m
-pub record Sticky (m d t : ℕ) : Type 0 where
-  pub bit : t < 2
-  pub exact : t ≡ 0 → sq (2 * m) % 2 ^ (2 * d) ≡ 0
-  pub more : 0 < t → 0 < sq (2 * m) % 2 ^ (2 * d)
+-- t tells whether the square of 2 m leaves a rest by 4 ^ d
+pub record Sticky (m d : ℕ) (t : Bool) : Type 0 where
+  pub exact : t ≡ false → sq (2 * m) % 2 ^ (2 * d) ≡ 0
+  pub more : t ≡ true → 0 < sq (2 * m) % 2 ^ (2 * d)
 
 -- m, or 2 m where the root is not in the binade above
 pub record Scaled (m top r : ℕ) : Type 0 where

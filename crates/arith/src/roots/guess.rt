@@ -2,6 +2,8 @@
 ghost use Rattle.std.specs.Prelude.{◌^◌, ◌<◌};
 ghost use Rattle.arith.specs.roots.Steps.{Significand};
 
+use crate::bits::T52;
+
 // About the root of n, from n and half its bits, by three steps of Newton's iteration for 1 / root.
 fn guess(n: f64, half: u64) -> f64
     requires { half < 2 ^ 62 }
@@ -21,9 +23,9 @@ pub fn guessed(n: f64, half: u64) -> u64
     ensures { Significand result }
 {
     let g = guess(n, half);
-    if g == g {
-        f64::to_bits(g) % 0x10_0000_0000_0000 + 0x10_0000_0000_0000
+    if g.is_nan() {
+        T52
     } else {
-        0x10_0000_0000_0000
+        f64::to_bits(g) % T52 + T52
     }
 }

@@ -1,5 +1,5 @@
--- Loops over the first n of a list that leave at the first element that decides: what is not yet tried decides for all n. By the
--- element that stands at the head of what is left.
+-- Loops over a list, or over its first n, that leave at the first element that decides: what is not yet tried decides for all. By
+-- the element that stands at the head of what is left.
 use Prim.Native.Nat.{ℕ, suc, ◌+◌, ◌<◌, ◌≤◌}
 use native.Mathlib.Nat.{le_of_eq, le_trans, lt_of_lt_of_le}
 use native.Mathlib.Numerals.{add-one}
@@ -41,18 +41,18 @@ module _ {A : Type 0} (l : List A) (n : ℕ) (long : n ≤ length l) where
     unfolding any_of
     found_never h = rw (front_end i h) at inv
 
-  -- tests of each element, one element after the other; r the number of the element at i
-  module _ (tests : A → List Test) (i : ℕ)
-      (inv : refusal (flat_map tests (drop i (take n l))) ≡ refusal (flat_map tests (take n l))) where
-    pub refused_never : n ≤ i → 0 ≡ refusal (flat_map tests (take n l))
-    unfolding flat_map refusal
-    refused_never h = rw (front_end i h) at inv
+-- tests of each element of a list, one element after the other; r the number of the element at i
+module _ {A : Type 0} (l : List A) (tests : A → List Test) (i : ℕ)
+    (inv : refusal (flat_map tests (drop i l)) ≡ refusal (flat_map tests l)) where
+  pub refused_never : length l ≤ i → 0 ≡ refusal (flat_map tests l)
+  unfolding flat_map refusal
+  refused_never h = rw (drop_of_length-le l h) at inv
 
-    module _ (k : (x : A) → T (numbered (tests x))) (d : A) (h : i < n) {r : ℕ} (e : r ≡ refusal (tests (get_or l i d))) where
-      pub refused_later : r ≡ 0 → refusal (flat_map tests (drop (i + 1) (take n l))) ≡ refusal (flat_map tests (take n l))
-      unfolding flat_map
-      refused_later z = rw (front_at i d h, refusal_append _ _ (k _), ← e, z) at inv
+  module _ (k : (x : A) → T (numbered (tests x))) (d : A) (h : i < length l) {r : ℕ} (e : r ≡ refusal (tests (get_or l i d))) where
+    pub refused_later : r ≡ 0 → refusal (flat_map tests (drop (i + 1) l)) ≡ refusal (flat_map tests l)
+    unfolding flat_map
+    refused_later z = rw add-one (rw (drop-cons l i d h, refusal_append _ _ (k _), ← e, z) at inv)
 
-      pub refused_here : (r ≡ 0 → ⊥) → r ≡ refusal (flat_map tests (take n l))
-      unfolding flat_map
-      refused_here z = or_else_first r _ z ∙ (rw (front_at i d h, refusal_append _ _ (k _), ← e) at inv)
+    pub refused_here : (r ≡ 0 → ⊥) → r ≡ refusal (flat_map tests l)
+    unfolding flat_map
+    refused_here z = or_else_first r _ z ∙ (rw (drop-cons l i d h, refusal_append _ _ (k _), ← e) at inv)

@@ -3,44 +3,21 @@
 use Prim.Native.Nat.{ℕ, zero, suc, ◌+◌, ◌*◌, ◌<◌, ◌≤◌}
 use native.Mathlib.Nat.{eq-or-lt_of_le}
 use native.Mathlib.Omega.{arith}
-use mathlib.Core.Bool.{Bool, true, false, not, ◌&&◌, ◌||◌, cond}
+use mathlib.Core.Bool.{Bool, true, false, not, ◌||◌}
 use mathlib.Core.Logic.{⊎_elim}
 use mathlib.Core.Path.{◌≡◌, refl, ap, subst, sym, ◌∙◌}
 use lib.Dec.{T}
 use lib.Ieee.{Float}
+use Rattle.std.specs.Bool.{then_some}
+use Rattle.std.specs.Option.{option_or}
+use Rattle.std.specs.Prelude.{Option, Some, None, is_some}
 use Rattle.section.specs.profile.Vertices.{upto, any}
 use Rattle.walk.specs.declared.shapes.CountedHit.{CountedHit}
 use Rattle.bodies.specs.declared.shapes.Body.{Body}
 use Rattle.bodies.specs.verdicts.Tilt.{judged_distance}
 use Rattle.bodies.specs.verdicts.Verdicts.{collides}
 use Rattle.bodies.specs.moves.Moves.{untried, with_step}
-use Rattle.bodies.specs.moves.Steps.{first_collision}
 use Rattle.bodies.specs.declared.moves.shapes.Report.{Report}
-
--- ---- one step's collision, by cases of whether there is one, and was one before
-module _ (i : ℕ) (hits : Bool) (r : Report) where
-  abbrev marked : Bool → ℕ → Report
-  marked b k = record { distance = r.distance; step = r.step; collides = b; colliding_step = k; boxes = r.boxes }
-
-  abbrev after : Bool → Bool → Report
-  after b h = marked (b || h) (cond (not b && h) i r.colliding_step)
-
-  pub colliding_now : {k : ℕ} → hits ≡ true → k ≡ cond r.collides r.colliding_step i
-      → marked true k ≡ first_collision i hits r
-  colliding_now e f = ap (marked true) f ∙ go r.collides hits e
-    where
-      go : (b h : Bool) → h ≡ true → marked true (cond b r.colliding_step i) ≡ after b h
-      go true true p = refl
-      go false true p = refl
-      go b false p = absurd (subst (λ (x : Bool). T (not x)) p tt)
-
-  pub clear_now : hits ≡ false → r ≡ first_collision i hits r
-  clear_now e = go r.collides hits e
-    where
-      go : (b h : Bool) → h ≡ false → marked b r.colliding_step ≡ after b h
-      go true false p = refl
-      go false false p = refl
-      go b true p = absurd (subst T p tt)
 
 -- the first k for which the test is true
 pub record First (test : ℕ → Bool) (n k : ℕ) : Type 0 where
@@ -71,19 +48,24 @@ module _ (body : ℕ → Body) (hit : ℕ → CountedHit) (clearance : Float) wh
       omega (arith, p, q)
 
   -- ---- the collision
-  pub collides_any : (k : ℕ) → (tried k).collides ≡ any hits k
+  pub collides_any : (k : ℕ) → is_some (tried k).colliding_step ≡ any hits k
   unfolding upto any
   collides_any zero = refl
-  collides_any (suc k) = ap (λ (b : Bool). b || hits k) (collides_any k)
+  collides_any (suc k) = more (tried k).colliding_step (hits k) ∙ ap (λ (b : Bool). b || hits k) (collides_any k)
+    where
+      more : (first : Option ℕ) (b : Bool) → is_some (option_or first (then_some b k)) ≡ (is_some first || b)
+      more None true = refl
+      more None false = refl
+      more (Some i) b = refl
 
   -- whether and where
   pub data Colliding (k : ℕ) (r : Report) : Type 0 where
-    never : r.collides ≡ false → r.colliding_step ≡ 0 → ((i : ℕ) → i < k → T (not (hits i))) → Colliding k r
-    at : r.collides ≡ true → First hits k r.colliding_step → Colliding k r
+    never : r.colliding_step ≡ None → ((i : ℕ) → i < k → T (not (hits i))) → Colliding k r
+    at : {j : ℕ} → r.colliding_step ≡ Some j → First hits k j → Colliding k r
 
   pub colliding : (k : ℕ) → Colliding k (tried k)
   unfolding upto
-  colliding zero = never refl refl (λ i h. absurd (omega (arith, h)))
+  colliding zero = never refl (λ i h. absurd (omega (arith, h)))
   colliding (suc k) = go (colliding k) (hits k) refl
     where
       longer : {P : ℕ → Type 0} → ((i : ℕ) → i < k → P i) → P k → (i : ℕ) → i < suc k → P i
@@ -91,17 +73,9 @@ module _ (body : ℕ → Body) (hit : ℕ → CountedHit) (clearance : Float) wh
           ⊎_elim (λ (q : i ≡ k). subst P (sym q) p) (λ (q : i < k). f i q) (eq-or-lt_of_le (omega (arith, h)))
 
       go : Colliding k (tried k) → (b : Bool) → hits k ≡ b → Colliding (suc k) (tried (suc k))
-      go (never c z none) true e =
-          at (rw (c, e)) (subst (First hits (suc k)) (sym (rw (c, e))) (record {
-            below = omega arith;
-            holds = subst T (sym e) tt;
-            before = none;
-          }))
-      go (never c z none) false e =
-          never (rw (c, e)) (rw (c, e) z) (longer {P = λ i. T (not (hits i))} none (subst (λ (b : Bool). T (not b)) (sym e) tt))
+      go (never c none) true e =
+          at (rw (c, e)) (record { below = omega arith; holds = subst T (sym e) tt; before = none })
+      go (never c none) false e =
+          never (rw (c, e)) (longer {P = λ i. T (not (hits i))} none (subst (λ (b : Bool). T (not b)) (sym e) tt))
       go (at c f) b e =
-          at (rw c) (subst (First hits (suc k)) (sym (rw c)) (record {
-            below = omega (arith, f.below);
-            holds = f.holds;
-            before = f.before;
-          }))
+          at (rw c) (record { below = omega (arith, f.below); holds = f.holds; before = f.before })

@@ -6,10 +6,16 @@ use mathlib.Core.List.{List, [], ◌∷◌, ◌++◌}
 use mathlib.Core.Path.{◌≡◌, refl, ap, sym, ◌∙◌}
 use lib.Dec.{T, ltb, nltb→le}
 use lib.Ieee.{Float}
+use Rattle.std.specs.Prelude.{Result, Ok, Err}
+use Rattle.std.specs.Bool.{⊤}
+use Rattle.std.specs.Result.{result_and}
+use Rattle.section.specs.declared.shapes.Refusal.{Refusal}
+use Rattle.section.specs.profile.Numbers.{refused_by}
 use Rattle.section.specs.profile.Refusals.{Test, refusal, any_of, odd, fewer, more, not_finite, over_limit}
 use Rattle.section.specs.profile.Refusals.{shape_tests, number_tests, axis_tests, point_numbers}
 use Rattle.section.specs.profile.Replies.{reply}
 use Rattle.section.specs.profile.Steps.{numbered, or_else}
+use Rattle.section.proofs.profile.Numbered.{above_zero}
 use Rattle.section.proofs.profile.Each.{All, nil, cons, all_first, all_rest, all_append, all_map, found_none}
 use Rattle.section.proofs.profile.Refusals.Ordered.{Passes, all_pass, refusal_append, by_first, by_rest, or_else_none}
 use Rattle.section.proofs.profile.Refusals.Passed.{NumberTaken, ShapeTaken, Taken, taken, passed}
@@ -92,18 +98,13 @@ within least greatest n h = go (ltb n least) (ltb greatest n) (nltb→le n least
     go false false p q h = (p tt, q tt)
 
 -- what is given first, then the step count
-module _ (s : List Float) (b : Body) (clearance : Float) (v : Travel) (t : Settings) {n : ℕ}
-    (e : n ≡ refusal (given_move s b clearance v t)) where
-  given_numbered : T (numbered (given_move s b clearance v t))
-  given_numbered = own_numbered b
-
-  pub given_first : (n ≡ 0 → ⊥) → n ≡ refusal (before_placing s b clearance v t)
-  given_first k =
-      by_first (given_move s b clearance v t) (steps_tests v.steps) given_numbered 0 e k
-      ∙ or_else_none (refusal (before_placing s b clearance v t))
-
-  pub given_then_steps : n ≡ 0 → {m : ℕ} → m ≡ refusal (steps_tests v.steps) → m ≡ refusal (before_placing s b clearance v t)
-  given_then_steps z f = by_rest (given_move s b clearance v t) (steps_tests v.steps) given_numbered e z f
+pub given_then_steps : (s : List Float) (b : Body) (clearance : Float) (v : Travel) (t : Settings) (given steps : Result ⊤ Refusal)
+    → refused_by given ≡ refusal (given_move s b clearance v t) → refused_by steps ≡ refusal (steps_tests v.steps)
+    → refused_by (result_and given steps) ≡ refusal (before_placing s b clearance v t)
+given_then_steps s b clearance v t (Ok u) steps e f = by_rest (given_move s b clearance v t) (steps_tests v.steps) (own_numbered b) e refl f
+given_then_steps s b clearance v t (Err r) steps e f =
+    by_first (given_move s b clearance v t) (steps_tests v.steps) (own_numbered b) 0 e (above_zero r)
+    ∙ or_else_none (refusal (before_placing s b clearance v t))
 
 module _ (s : List Float) (b : Body) (clearance : Float) (v : Travel) (t : Settings)
     (e : refusal (before_placing s b clearance v t) ≡ 0) where

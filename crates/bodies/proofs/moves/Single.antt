@@ -9,6 +9,7 @@ use mathlib.Core.List.{List, [], ◌∷◌, ◌++◌}
 use mathlib.Core.Path.{◌≡◌, ap, sym, ◌∙◌}
 use lib.Dec.{T}
 use lib.Ieee.{Float, is_nan}
+use Rattle.std.specs.Prelude.{Some, None}
 use lib.Ieee.Bits.{is_true, is_false}
 use Rattle.section.specs.profile.Refusals.{Test, refusal}
 use Rattle.section.specs.profile.Replies.{value, turned_down, reply}
@@ -22,6 +23,7 @@ use Rattle.bodies.specs.Bodies.{alone_tests, body_tests, body_answer}
 use Rattle.bodies.specs.declared.shapes.Body.{Body}
 use Rattle.bodies.proofs.Alone.{alone_numbered}
 use Rattle.bodies.proofs.Number.{body_number}
+use Rattle.bodies.proofs.Replied.{refused_by_lem, valued_by}
 use Rattle.bodies.specs.verdicts.Verdicts.{body_verdict}
 use Rattle.bodies.specs.moves.Placement.{placed_at}
 use Rattle.bodies.specs.moves.Moves.{before_placing, placed_tests, move_tests, step_hit, report_upto, move_answer}
@@ -31,7 +33,7 @@ use Rattle.bodies.proofs.moves.Fields.{Colliding, never, at, hits, colliding, bo
 use Rattle.bodies.proofs.moves.Given.{before_numbered, tests_alone, query_alone, verdict_given}
 use Rattle.bodies.proofs.moves.Ordered.{numbered_append, first_numbered, none_refused, none_yet}
 use Rattle.bodies.proofs.moves.Smallest.{Smallest, smallest}
-use Rattle.bodies.proofs.moves.Turns.{refused_by_lem, valued_by, placed_refused}
+use Rattle.bodies.proofs.moves.Turns.{placed_refused}
 
 module _ (s : List Float) (b : Body) (clearance : Float) (v : Travel) (t : Settings) where
   abbrev tests : ℕ → List Test
@@ -106,11 +108,10 @@ module _ (s : List Float) (b : Body) (clearance : Float) (v : Travel) (t : Setti
 
 -- ---- at the finest settings: whether and where a step's own verdict is collision
 pub data Judged (s : List Float) (b : Body) (clearance : Float) (v : Travel) (r : Report) : Type 0 where
-  clear : r.collides ≡ false → ((i : ℕ) → i ≤ v.steps → body_verdict s (placed_at b v i) clearance ≡ value false)
+  clear : r.colliding_step ≡ None → ((i : ℕ) → i ≤ v.steps → body_verdict s (placed_at b v i) clearance ≡ value false)
       → Judged s b clearance v r
-  collision : r.collides ≡ true → r.colliding_step ≤ v.steps
-      → body_verdict s (placed_at b v r.colliding_step) clearance ≡ value true
-      → ((i : ℕ) → i < r.colliding_step → body_verdict s (placed_at b v i) clearance ≡ value false) → Judged s b clearance v r
+  collision : {k : ℕ} → r.colliding_step ≡ Some k → k ≤ v.steps → body_verdict s (placed_at b v k) clearance ≡ value true
+      → ((i : ℕ) → i < k → body_verdict s (placed_at b v i) clearance ≡ value false) → Judged s b clearance v r
 
 module _ (s : List Float) (b : Body) (clearance : Float) (v : Travel) (e : refusal (move_tests s b clearance v finest) ≡ 0) where
   abbrev hit : ℕ → Bool
@@ -124,8 +125,8 @@ module _ (s : List Float) (b : Body) (clearance : Float) (v : Travel) (e : refus
   judged = go (colliding (placed_at b v) (step_hit s b v finest) clearance (v.steps + 1))
     where
       go : {r : Report} → Colliding (placed_at b v) (step_hit s b v finest) clearance (v.steps + 1) r → Judged s b clearance v r
-      go (never c z none) = clear c (λ i h. step_verdict i h ∙ ap value (is_false (hit i) (none i (omega (arith, h)))))
-      go {r} (at c f) =
-          let l : r.colliding_step ≤ v.steps = omega (arith, f.below) in
-          collision c l (step_verdict r.colliding_step l ∙ ap value (is_true (hit r.colliding_step) f.holds))
+      go (never c none) = clear c (λ i h. step_verdict i h ∙ ap value (is_false (hit i) (none i (omega (arith, h)))))
+      go (at {j = k} c f) =
+          let l : k ≤ v.steps = omega (arith, f.below) in
+          collision c l (step_verdict k l ∙ ap value (is_true (hit k) f.holds))
           (λ i h. step_verdict i (omega (arith, h, l)) ∙ ap value (is_false (hit i) (f.before i h)))

@@ -4,12 +4,15 @@ use Prim.Native.Nat.{ℕ, zero, suc, ◌+◌, ◌*◌, ◌^◌, ◌<◌, ◌≤�
 use native.Mathlib.Nat.{le_trans}
 use native.Mathlib.Numerals.{add-one}
 use native.Mathlib.Omega.{arith}
-use mathlib.Core.Bool.{Bool, true, false, not, ◌&&◌, ◌||◌, cond}
+use mathlib.Core.Bool.{Bool, true, false, not, cond}
 use mathlib.Core.List.{List}
 use mathlib.Core.Path.{◌≡◌, refl, ap, subst, sym, ◌∙◌}
 use lib.Dec.{T, lit≤}
 use lib.Ieee.{Float, is_nan}
 use mir.Facts.{T_not-not}
+use Rattle.std.specs.Bool.{then_some}
+use Rattle.std.specs.Option.{option_or}
+use Rattle.std.specs.Prelude.{Option}
 use Rattle.arith.specs.F64.{◌⊕◌, ◌≺◌, 𝟘, ∞}
 use Rattle.arith.specs.Num.{is_finite}
 use Rattle.arith.specs.Vector.{vec}
@@ -43,8 +46,7 @@ abbrev pub standing : Body → CountedHit → Float → ℕ → Report
 standing b h clearance boxes = record {
   distance = h.hit.distance;
   step = 0;
-  collides = collides (judged_distance b h.hit.distance) clearance;
-  colliding_step = 0;
+  colliding_step = then_some (collides (judged_distance b h.hit.distance) clearance) 0;
   boxes = boxes;
 }
 
@@ -58,25 +60,23 @@ module _ (b : Body) (h : CountedHit) (clearance : Float) (p : T (not (is_nan h.h
   abbrev stands : ℕ → Report
   stands = standing b h clearance
 
-  abbrev made : Float → ℕ → Bool → ℕ → ℕ → Report
-  made x k c j n = record { distance = x; step = k; collides = c; colliding_step = j; boxes = n }
+  abbrev made : Float → ℕ → Option ℕ → ℕ → Report
+  made x k c n = record { distance = x; step = k; colliding_step = c; boxes = n }
 
   first : with_step 0 b h clearance untried ≡ stands (0 + h.boxes)
-  first = go (d ≺ ∞) (at_infinity d p) hits
+  first = go (d ≺ ∞) (at_infinity d p)
     where
-      go : (a : Bool) → ((T a → ⊥) → d ≡ ∞) → (c : Bool)
-          → made (cond a d ∞) (cond a 0 0) c (cond c 0 0) (0 + h.boxes) ≡ made d 0 c 0 (0 + h.boxes)
-      go true f true = refl
-      go true f false = refl
-      go false f true = ap (λ (x : Float). made x 0 true 0 (0 + h.boxes)) (sym (f (λ k. k)))
-      go false f false = ap (λ (x : Float). made x 0 false 0 (0 + h.boxes)) (sym (f (λ k. k)))
+      go : (a : Bool) → ((T a → ⊥) → d ≡ ∞)
+          → made (cond a d ∞) (cond a 0 0) (then_some hits 0) (0 + h.boxes) ≡ made d 0 (then_some hits 0) (0 + h.boxes)
+      go true f = refl
+      go false f = ap (λ (x : Float). made x 0 (then_some hits 0) (0 + h.boxes)) (sym (f (λ k. k)))
 
   again : (k n : ℕ) → with_step (suc k) b h clearance (stands n) ≡ stands (n + h.boxes)
   again k n = go (d ≺ d) (λ q. not_above d d q q) hits
     where
       go : (a : Bool) → (T a → ⊥) → (c : Bool)
-          → made (cond a d d) (cond a (suc k) 0) (c || c) (cond (not c && c) (suc k) 0) (n + h.boxes)
-          ≡ made d 0 c 0 (n + h.boxes)
+          → made (cond a d d) (cond a (suc k) 0) (option_or (then_some c 0) (then_some c (suc k))) (n + h.boxes)
+          ≡ made d 0 (then_some c 0) (n + h.boxes)
       go true f c = absurd (f tt)
       go false f true = refl
       go false f false = refl

@@ -1,13 +1,12 @@
 -- The loop over the steps: what holds before each turn, that a turn keeps it, and the answer where the loop ends, at the first
 -- step that is refused or behind the last. By the laws of tests in order, and by what each step's query gives.
-use Prim.Native.Nat.{ℕ, zero, suc, ◌+◌, ◌*◌, ◌<◌, ◌≤◌}
+use Prim.Native.Nat.{ℕ, ◌+◌, ◌*◌, ◌<◌, ◌≤◌}
 use native.Mathlib.Nat.{eq-or-lt_of_le, le_trans}
 use native.Mathlib.Omega.{arith}
-use mathlib.Core.Bool.{Bool, true, false}
 use mathlib.Core.List.{List}
 use mathlib.Core.Logic.{⊎_elim}
 use mathlib.Core.Path.{◌≡◌, refl, ap, subst, sym, ◌∙◌}
-use lib.Dec.{T, lit≤}
+use lib.Dec.{lit≤}
 use lib.Ieee.{Float}
 use Rattle.section.specs.profile.Refusals.{Test, refusal}
 use Rattle.section.specs.profile.Replies.{Reply, value, turned_down, reply, OfValue, Answers}
@@ -22,6 +21,7 @@ use Rattle.bodies.specs.Bodies.{alone_tests, body_distance, body_answer, BodyPro
 use Rattle.bodies.specs.declared.shapes.Body.{Body}
 use Rattle.bodies.specs.declared.shapes.Body.TheVariants.{Sphere, Box, Cylinder}
 use Rattle.bodies.proofs.Alone.{alone_numbered}
+use Rattle.bodies.proofs.Replied.{refused_by_lem, valued_by}
 use Rattle.bodies.specs.moves.Placement.{placed_at}
 use Rattle.bodies.specs.moves.Moves.{before_placing, placed_tests, move_tests, untried, with_step, step_hit, report_upto, move_answer}
 use Rattle.bodies.specs.moves.Moves.{MovePromised}
@@ -30,28 +30,6 @@ use Rattle.bodies.specs.declared.moves.shapes.Report.{Report}
 use Rattle.bodies.proofs.moves.Fields.{boxes_few}
 use Rattle.bodies.proofs.moves.Given.{before_numbered, settings_pass, steps_given, query_alone}
 use Rattle.bodies.proofs.moves.Ordered.{one_more, first_refused_lem}
-
--- ---- which case of a reply
-abbrev is_value : {A : Type 0} → Reply A → Bool
-is_value (value a) = true
-is_value (turned_down n) = false
-
-abbrev value_of : {A : Type 0} → A → Reply A → A
-value_of d (value a) = a
-value_of d (turned_down n) = d
-
-abbrev number_in : {A : Type 0} → Reply A → ℕ
-number_in (value a) = 0
-number_in (turned_down n) = n
-
-module _ {A : Type 0} where
-  pub refused_by_lem : (k : ℕ) (a : A) {n : ℕ} → turned_down n ≡ reply k a → (n ≡ k) × (n ≡ 0 → ⊥)
-  refused_by_lem zero a e = absurd (subst (λ (r : Reply A). T (is_value r)) (sym e) tt)
-  refused_by_lem (suc k) a e = let f = ap number_in e in (f, λ z. omega (arith, f, z))
-
-  pub valued_by : (k : ℕ) (a : A) {b : A} → value b ≡ reply k a → (k ≡ 0) × (b ≡ a)
-  valued_by zero a e = (refl, ap (value_of a) e)
-  valued_by (suc k) a e = absurd (subst (λ (r : Reply A). T (is_value r)) e tt)
 
 -- a sphere counts no box, a box one, a cylinder at most the setting
 pub boxes_most : (s : List Float) (t : Settings) → t.most ≤ 8192 → (b : Body) → BodyPromised s b t (body_distance s b t)

@@ -8,12 +8,12 @@ use lib.Dec.{T}
 use lib.Ieee.{Float}
 use Rattle.arith.specs.F64.{◌≺◌}
 use Rattle.section.specs.profile.Refusals.{Test, refusal, any_below_axis, list_tests, axis_tests, convex_tests}
-use Rattle.section.specs.profile.Replies.{Reply, value, reply, mapped, OfValue, Answers}
+use Rattle.section.specs.profile.Replies.{Reply, value, turned_down, reply, mapped, Answers}
 use Rattle.section.specs.profile.Steps.{numbered, or_else}
 use Rattle.section.proofs.profile.Each.{nil, all_first, all_rest, all_append}
 use Rattle.section.proofs.profile.Refusals.Ordered.{none_applies, all_pass, refusal_append}
 use Rattle.section.proofs.profile.Refusals.Passed.{Taken, taken, passed}
-use Rattle.section.proofs.profile.Replies.{mapped_answers, mapped_reply}
+use Rattle.section.proofs.profile.Replies.{mapped_answers, mapped_reply, value_answer}
 use Rattle.section.specs.declared.profile.shapes.CollisionHit.{CollisionHit}
 use Rattle.section.specs.convex.Convex.{convex_distance}
 use Rattle.section.specs.Answers.{convex_answer}
@@ -24,8 +24,8 @@ use Rattle.walk.specs.declared.shapes.CountedHit.{CountedHit}
 use Rattle.bodies.specs.Bodies.{alone_tests, body_numbers, body_own, body_tests, boxes_only}
 use Rattle.bodies.specs.declared.shapes.Body.{Body}
 use Rattle.bodies.proofs.Alone.{alone_taken}
+use Rattle.bodies.proofs.Replied.{refused_by_lem, valued_by}
 use Rattle.bodies.specs.pairs.Pairs.{Won, won, nearer, winner, one_section_tests, pair_tests}
-use Rattle.bodies.specs.pairs.Steps.{nearer_of}
 
 -- ---- the order of the tests
 pub below_axis_lem : (s : List Float) {b : Bool} → b ≡ any_below_axis s → b ≡ true → 6 ≡ refusal (axis_tests s)
@@ -117,24 +117,14 @@ module _ (P : List Float → CountedHit → Type 0) (chuck work : List Float) wh
       go false = p
 
   -- where neither section's query turns anything down, the nearer of their values
-  pub together : {a b : Reply CountedHit} {r : Reply Won} (n i j : ℕ) (x y : CountedHit) → Answers a (reply i x) (P chuck)
-      → Answers b (reply j y) (P work) → r ≡ nearer_of a b → n ≡ 0 → i ≡ 0 → j ≡ 0 → Answers r (reply n (nearer x y)) OfWinner
-  together {a} {b} {r} n i j x y A B e k l m =
-      record { equal = e ∙ whole; owed = subst (λ (z : Reply Won). OfValue OfWinner z) (sym (e ∙ whole)) promised }
-    where
-      of_value : {A : Type 0} {o : ℕ} (v : A) → o ≡ 0 → reply o v ≡ value v
-      of_value v z = rw z
+  pub together : (n i j : ℕ) (x y : CountedHit) {k l : CountedHit} {w : Won} → Answers (value k) (reply i x) (P chuck)
+      → Answers (value l) (reply j y) (P work) → w ≡ nearer k l → n ≡ 0 → Answers (value w) (reply n (nearer x y)) OfWinner
+  together n i j x y {k} {l} A B e z =
+      record {
+        equal = value_answer (sym z) (e ∙ rw ((valued_by i x A.equal).1, (valued_by j y B.equal).1));
+        owed = subst OfWinner (sym e) (nearer_owed k l A.owed B.owed);
+      }
 
-      first : a ≡ value x
-      first = A.equal ∙ of_value x l
-
-      second : b ≡ value y
-      second = B.equal ∙ of_value y m
-
-      whole : nearer_of a b ≡ reply n (nearer x y)
-      whole = rw (first, second, k)
-
-      promised : OfValue OfWinner (reply n (nearer x y))
-      promised = subst (λ (z : Reply Won). OfValue OfWinner z) (sym (of_value (nearer x y) k))
-          (nearer_owed x y (subst (λ (z : Reply CountedHit). OfValue (P chuck) z) first A.owed)
-          (subst (λ (z : Reply CountedHit). OfValue (P work) z) second B.owed))
+-- and turns nothing down
+pub turns_down : {A B : Type 0} {n : ℕ} (i : ℕ) (a : A) → turned_down n ≡ reply i a → i ≡ 0 → B
+turns_down i a e z = let q = refused_by_lem i a e in absurd (q.1 (q.0 ∙ z))

@@ -10,8 +10,7 @@ use Rattle.section.specs.declared.profile.shapes.Witness.{Witness}
 use Rattle.section.specs.Demand.{AtMost}
 use Rattle.walk.specs.declared.shapes.CountedHit.{CountedHit}
 use Rattle.bodies.specs.lifted.Rule.{lift}
-use Rattle.bodies.specs.declared.lifted.shapes.LiftedHit.{LiftedHit}
-use Rattle.bodies.specs.declared.lifted.shapes.LiftedCountedHit.{LiftedCountedHit}
+use Rattle.bodies.specs.declared.lifted.shapes.Lifted.{Lifted}
 
 -- the lifted coordinate does not take the sign opposite to the middle's
 pub record SameSide (middle lifted : Float) : Type 0 where
@@ -42,17 +41,10 @@ pub record Lifts (x y : Float) (w : Witness) (p : Vec3) : Type 0 where
   pub placed : Near x y w → Placed x y w p
 
 -- what a query promises of its value: P of the plain hit, and the place of the lifted witness
-pub record WithPlace (P : CollisionHit → Type 0) (x y : Float) (h : LiftedHit) : Type 0 where
+pub record WithPlace (P : CollisionHit → Type 0) (x y : Float) (h : Lifted CollisionHit) : Type 0 where
   pub plain : P h.hit
   pub placed : Placed x y h.hit.witness h.witness
 
-pub record WithPlaceCounted (P : CountedHit → Type 0) (x y : Float) (h : LiftedCountedHit) : Type 0 where
+pub record WithPlaceCounted (P : CountedHit → Type 0) (x y : Float) (h : Lifted CountedHit) : Type 0 where
   pub plain : P h.hit
   pub placed : Placed x y h.hit.hit.witness h.witness
-
--- what the functions below the entry points promise each other
-abbrev pub Liftable : Float → Float → LiftedHit → Type 0
-Liftable x y h = Near x y h.hit.witness → Placed x y h.hit.witness h.witness
-
-abbrev pub LiftableCounted : Float → Float → LiftedCountedHit → Type 0
-LiftableCounted x y h = Near x y h.hit.hit.witness → Placed x y h.hit.hit.witness h.witness

@@ -1,10 +1,12 @@
 -- 02's trying of a move: a body, a clearance, a start and an end offset, and n from 1 to 4,096 steps. The body is placed at steps
 -- 0 to n, and each placement is one query with the call's settings. Reported are the smallest distance and its first step, the
 -- first colliding step if any, and the total of the boxes measured.
-use Rattle.std.specs.Prelude.{ℕ, ◌+◌, ◌*◌, ◌≤◌, false, not, ◌&&◌, ◌||◌, cond, List, [], ◌∷◌, ◌++◌, Float}
+use Rattle.std.specs.Prelude.{ℕ, ◌+◌, ◌*◌, ◌≤◌, cond, None, List, [], ◌∷◌, ◌++◌, Float}
+use Rattle.std.specs.Bool.{then_some}
+use Rattle.std.specs.Option.{option_or}
 use Rattle.arith.specs.F64.{◌≺◌, ∞}
 use Rattle.section.specs.profile.Refusals.{Test, ◌when◌, refusal, point_numbers}
-use Rattle.section.specs.profile.Replies.{Reply, value, turned_down, reply}
+use Rattle.section.specs.profile.Replies.{Reply, reply}
 use Rattle.section.specs.profile.Vertices.{upto}
 use Rattle.walk.specs.settings.Settings.{settings_tests, outside}
 use Rattle.walk.specs.declared.settings.shapes.Settings.{Settings}
@@ -16,13 +18,6 @@ use Rattle.bodies.specs.verdicts.Verdicts.{collides}
 use Rattle.bodies.specs.moves.Placement.{placed_at}
 use Rattle.bodies.specs.declared.moves.shapes.Travel.{Travel}
 use Rattle.bodies.specs.declared.moves.shapes.Report.{Report}
-use Rattle.bodies.specs.declared.moves.shapes.MoveAnswer.{MoveAnswer}
-use Rattle.bodies.specs.declared.moves.shapes.MoveAnswer.TheVariants.{Moved, Refused}
-
--- what each case stands for
-abbrev pub told : MoveAnswer → Reply Report
-told (Moved r) = value r
-told (Refused n) = turned_down n
 
 -- ---- what is turned down
 
@@ -48,7 +43,7 @@ move_tests s b clearance v t = before_placing s b clearance v t ++ placed_tests 
 
 -- before the first step
 abbrev pub untried : Report
-untried = record { distance = ∞; step = 0; collides = false; colliding_step = 0; boxes = 0 }
+untried = record { distance = ∞; step = 0; colliding_step = None; boxes = 0 }
 
 -- with step i, at which the body stands there and has this hit: a strictly smaller distance takes over, the first collision
 -- stays, the boxes add up
@@ -59,8 +54,7 @@ with_step i b h clearance r =
     record {
       distance = cond nearer h.hit.distance r.distance;
       step = cond nearer i r.step;
-      collides = r.collides || hits;
-      colliding_step = cond (not r.collides && hits) i r.colliding_step;
+      colliding_step = option_or r.colliding_step (then_some hits i);
       boxes = r.boxes + h.boxes;
     }
 

@@ -1,5 +1,5 @@
 -- What the functions below the entry point promise each other: the report after each part of a step.
-use Rattle.std.specs.Prelude.{ℕ, Bool, not, ◌&&◌, ◌||◌, cond, Float}
+use Rattle.std.specs.Prelude.{ℕ, cond, Float}
 use Rattle.arith.specs.F64.{◌≺◌}
 use Rattle.bodies.specs.declared.moves.shapes.Report.{Report}
 
@@ -7,16 +7,6 @@ abbrev pub nearer_step : ℕ → Float → Report → Report
 nearer_step i distance r = record {
   distance = cond (distance ≺ r.distance) distance r.distance;
   step = cond (distance ≺ r.distance) i r.step;
-  collides = r.collides;
   colliding_step = r.colliding_step;
-  boxes = r.boxes;
-}
-
-abbrev pub first_collision : ℕ → Bool → Report → Report
-first_collision i hits r = record {
-  distance = r.distance;
-  step = r.step;
-  collides = r.collides || hits;
-  colliding_step = cond (not r.collides && hits) i r.colliding_step;
   boxes = r.boxes;
 }

@@ -1,17 +1,18 @@
 -- 02's chuck and work together: two sections and a body give the smaller distance; the first section wins an equal one. The
 -- winner's witness, counts and mark come with it, and its vertices are handed back.
-use Rattle.std.specs.Prelude.{Bool, true, false, cond, List, ◌++◌, Float}
+use Rattle.std.specs.Prelude.{Bool, true, false, cond, Result, List, ◌++◌, Float}
 use Rattle.arith.specs.F64.{◌≺◌}
+use Rattle.section.specs.declared.shapes.Refusal.{Refusal}
 use Rattle.section.specs.profile.Refusals.{Test, refusal, list_tests, axis_tests}
-use Rattle.section.specs.profile.Replies.{Reply, value, turned_down, reply}
+use Rattle.section.specs.profile.Replies.{Reply, value, turned_down, mapped, reply, told as told_of}
 use Rattle.section.specs.convex.Convex.{convex_distance}
 use Rattle.section.specs.Demand.{Bounded}
 use Rattle.walk.specs.settings.Settings.{finest}
 use Rattle.walk.specs.declared.shapes.CountedHit.{CountedHit}
 use Rattle.bodies.specs.Bodies.{alone_tests, body_distance, boxes_only, BodyPromised}
 use Rattle.bodies.specs.declared.shapes.Body.{Body}
-use Rattle.bodies.specs.declared.pairs.shapes.PairAnswer.{PairAnswer}
-use Rattle.bodies.specs.declared.pairs.shapes.PairAnswer.TheVariants.{Chuck, Work, Refused}
+use Rattle.bodies.specs.declared.pairs.shapes.Won.{Won as Winner}
+use Rattle.bodies.specs.declared.pairs.shapes.Won.TheVariants.{Chuck, Work}
 
 -- whether the work won, and the winner's hit with its counts and mark
 pub record Won : Type 0 where
@@ -22,10 +23,13 @@ abbrev pub won : Bool → CountedHit → Won
 won work counted = record { work = work; counted = counted }
 
 -- what each case stands for
-abbrev pub told : PairAnswer → Reply Won
-told (Chuck h) = value (won false h)
-told (Work h) = value (won true h)
-told (Refused n) = turned_down n
+abbrev pub won_by : Winner → Won
+won_by (Chuck h) = won false h
+won_by (Work h) = won true h
+
+-- what a result stands for
+abbrev pub told : Result Winner Refusal → Reply Won
+told r = mapped won_by (told_of r)
 
 -- the smaller distance; the chuck wins an equal one
 abbrev pub nearer : CountedHit → CountedHit → Won

@@ -1,7 +1,7 @@
 -- 01's verdict on a cylinder, with the counts and the mark of the walk that its distance comes from.
 use Rattle.std.specs.Prelude.{◌≤◌, List, [], ◌∷◌, Float}
 use Rattle.section.specs.profile.Refusals.{refusal}
-use Rattle.section.specs.profile.Replies.{Reply, value, turned_down, reply}
+use Rattle.section.specs.profile.Replies.{Reply, reply}
 use Rattle.walk.specs.settings.Settings.{finest}
 use Rattle.walk.specs.bands.Axis.{axis}
 use Rattle.walk.specs.declared.bands.shapes.Axis.{Axis}
@@ -11,13 +11,6 @@ use Rattle.walk.specs.cylinders.Cylinders.{cylinder_distance, cylinder_tests}
 use Rattle.bodies.specs.verdicts.Tilt.{less_tilt}
 use Rattle.bodies.specs.verdicts.Verdicts.{collides}
 use Rattle.bodies.specs.declared.walk_verdicts.shapes.JudgedWalk.{JudgedWalk}
-use Rattle.bodies.specs.declared.walk_verdicts.shapes.WalkVerdict.{WalkVerdict}
-use Rattle.bodies.specs.declared.walk_verdicts.shapes.WalkVerdict.TheVariants.{Judged, Refused}
-
--- what each case stands for
-abbrev pub told : WalkVerdict → Reply JudgedWalk
-told (Judged w) = value w
-told (Refused n) = turned_down n
 
 -- a hit judged, with its own counts and mark
 abbrev pub judged_walk : Axis → Cylinder → Float → CountedHit → JudgedWalk

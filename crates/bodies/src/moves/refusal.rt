@@ -1,18 +1,24 @@
 // What is turned down before the body is placed anywhere.
 ghost use Rattle.std.specs.Prelude.{◌≡◌};
+ghost use Rattle.section.specs.profile.Numbers.{refused_by};
 ghost use Rattle.section.specs.profile.Refusals.{refusal};
 ghost use Rattle.section.specs.profile.Steps.{WithSettings};
 ghost use Rattle.bodies.specs.Bodies.{body_tests};
-ghost use Rattle.bodies.specs.moves.Moves.{steps_tests, given_move, before_placing};
+ghost use Rattle.bodies.specs.moves.Moves.{steps_tests, before_placing};
 
 use super::shapes::Travel;
 use crate::Body;
-use section::{box_refusal, sphere_refusal};
+use section::{Refusal, box_refusal, sphere_refusal};
 use walk::{Settings, axis_of, cylinder_refusal, settings_refusal};
 
-// A body of any kind beside a section, with more numbers that are given, and the number of the call's settings.
-fn beside_refusal(section: &[f64], body: Body, extra: &[f64], settings: u32) -> u32
-    ensures { WithSettings settings (body_tests section.now body extra.now) result }
+// A body of any kind beside a section, with more numbers that are given, and what is turned down of the call's settings.
+fn beside_refusal(
+    section: &[f64],
+    body: Body,
+    extra: &[f64],
+    settings: Result<(), Refusal>,
+) -> Result<(), Refusal>
+    ensures { WithSettings (refused_by settings) (body_tests section.now body extra.now) (refused_by result) }
 {
     match body {
         Body::Sphere(b) => sphere_refusal(section, b, extra, settings),
@@ -21,46 +27,30 @@ fn beside_refusal(section: &[f64], body: Body, extra: &[f64], settings: u32) -> 
     }
 }
 
-// The numbers of section, body, clearance, offsets and settings.
-fn given_refusal(
-    section: &[f64],
-    body: Body,
-    clearance: f64,
-    travel: Travel,
-    settings: Settings,
-) -> u32
-    ensures { result ≡ refusal (given_move section.now body clearance travel settings) }
-{
-    let start = travel.start;
-    let end = travel.end;
-    let extra = [clearance, start.x, start.y, start.z, end.x, end.y, end.z];
-    beside_refusal(section, body, &extra[..], settings_refusal(settings))
-}
-
 // Number 19: no step, or more than 4,096.
-fn steps_refusal(steps: u32) -> u32
-    ensures { result ≡ refusal (steps_tests steps) }
+#[tactic(auto, unfolding(section::specs::profile::Refusals::refusal))]
+fn steps_refusal(steps: u32) -> Result<(), Refusal>
+    ensures { refused_by result ≡ refusal (steps_tests steps) }
 {
-    if steps < 1 {
-        return 19;
+    if steps < 1 || 4096 < steps {
+        return Err(Refusal::BadSteps);
     }
-    if 4096 < steps { 19 } else { 0 }
+    Ok(())
 }
 
-// Everything that is given, then 19.
+// Section, body, clearance, offsets and settings are tested first, then the steps.
 pub fn before_placing(
     section: &[f64],
     body: Body,
     clearance: f64,
     travel: Travel,
     settings: Settings,
-) -> u32
-    ensures { result ≡ refusal (before_placing section.now body clearance travel settings) }
+) -> Result<(), Refusal>
+    ensures { refused_by result ≡ refusal (before_placing section.now body clearance travel settings) }
 {
-    let counted = steps_refusal(travel.steps);
-    let given = given_refusal(section, body, clearance, travel, settings);
-    if given != 0 {
-        return given;
-    }
-    counted
+    let start = travel.start;
+    let end = travel.end;
+    let extra = [clearance, start.x, start.y, start.z, end.x, end.y, end.z];
+    let given = beside_refusal(section, body, &extra[..], settings_refusal(settings));
+    given.and(steps_refusal(travel.steps))
 }

@@ -9,20 +9,12 @@ pub struct Travel {
     pub steps: u32,
 }
 
-// The smallest distance and the first step that has it; whether some step collides and the first that does, 0 if none;
-// the boxes measured in all steps.
+// The smallest distance and the first step that has it; the first step that collides, if one does; the boxes measured in
+// all steps.
 #[derive(Clone, Copy)]
 pub struct Report {
     pub distance: f64,
     pub step: u32,
-    pub collides: bool,
-    pub colliding_step: u32,
+    pub colliding_step: Option<u32>,
     pub boxes: u32,
-}
-
-// The report, or the number under which the call is turned down.
-#[derive(Clone, Copy)]
-pub enum MoveAnswer {
-    Moved(Report),
-    Refused(u32),
 }

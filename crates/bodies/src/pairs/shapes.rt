@@ -1,10 +1,9 @@
-// The answer of a pair of sections.
+// The winner of a pair of sections.
 use walk::CountedHit;
 
-// The section that won, with what its own query gives; or the number under which the call is turned down.
+// The section that won, with what its own query gives.
 #[derive(Clone, Copy)]
-pub enum PairAnswer {
+pub enum Won {
     Chuck(CountedHit),
     Work(CountedHit),
-    Refused(u32),
 }

@@ -1,7 +1,7 @@
 // The report of a move, step by step.
-ghost use Rattle.std.specs.Prelude.{◌+◌, ◌≤◌, cond, ◌≡◌};
+ghost use Rattle.std.specs.Prelude.{◌+◌, ◌≤◌, ◌≡◌};
 ghost use Rattle.bodies.specs.moves.Moves.{untried, with_step};
-ghost use Rattle.bodies.specs.moves.Steps.{nearer_step, first_collision};
+ghost use Rattle.bodies.specs.moves.Steps.{nearer_step};
 
 use crate::Body;
 use crate::moves::Report;
@@ -15,8 +15,7 @@ pub fn untried() -> Report
     Report {
         distance: arith::infinity(),
         step: 0,
-        collides: false,
-        colliding_step: 0,
+        colliding_step: None,
         boxes: 0,
     }
 }
@@ -29,34 +28,7 @@ fn nearer_step(report: Report, i: u32, distance: f64) -> Report
         return Report {
             distance,
             step: i,
-            collides: report.collides,
-            colliding_step: report.colliding_step,
-            boxes: report.boxes,
-        };
-    }
-    report
-}
-
-// The first step that collides stays.
-fn first_of(collides: bool, first: u32, i: u32) -> u32
-    ensures { result ≡ cond collides first i }
-{
-    if collides {
-        return first;
-    }
-    i
-}
-
-fn first_collision(report: Report, i: u32, hits: bool) -> Report
-    ensures { result ≡ first_collision i hits report }
-{
-    if hits {
-        return Report {
-            distance: report.distance,
-            step: report.step,
-            collides: true,
-            colliding_step: first_of(report.collides, report.colliding_step, i),
-            boxes: report.boxes,
+            ..report
         };
     }
     report
@@ -67,15 +39,11 @@ pub fn with_step(report: Report, i: u32, body: Body, hit: CountedHit, clearance:
     requires { report.boxes + hit.boxes ≤ 4294967295 }
     ensures { result ≡ with_step i body hit clearance report }
 {
-    let boxes = report.boxes + hit.boxes as u32;
     let distance = hit.hit.distance;
     let hits = collides(judged_distance(body, distance), clearance);
-    let judged = first_collision(nearer_step(report, i, distance), i, hits);
     Report {
-        distance: judged.distance,
-        step: judged.step,
-        collides: judged.collides,
-        colliding_step: judged.colliding_step,
-        boxes,
+        colliding_step: report.colliding_step.or(hits.then_some(i)),
+        boxes: report.boxes + hit.boxes as u32,
+        ..nearer_step(report, i, distance)
     }
 }

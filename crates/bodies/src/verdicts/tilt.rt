@@ -3,22 +3,18 @@ ghost use Rattle.std.specs.Prelude.{◌≡◌};
 ghost use Rattle.bodies.specs.verdicts.Tilt.{tilt_length, less_tilt, judged_distance};
 
 use crate::Body;
+use arith::Vec3;
 use walk::{Axis, Cylinder, axis_of};
 
 // How far one end stands from the other, seen along the axis.
 fn tilt_length(axis: Axis, c: Cylinder) -> f64
     ensures { result ≡ tilt_length axis c }
 {
-    let a = c.a;
-    let b = c.b;
-    let x = a.x - b.x;
-    let y = a.y - b.y;
-    let z = a.z - b.z;
+    let Vec3 { x, y, z } = c.a.sub(c.b);
     match axis {
-        Axis::Axial => arith::hypot(x, y),
+        Axis::Axial | Axis::Neither => arith::hypot(x, y),
         Axis::AlongX => arith::hypot(y, z),
         Axis::AlongY => arith::hypot(x, z),
-        Axis::Neither => arith::hypot(x, y),
     }
 }
 
@@ -33,8 +29,7 @@ pub fn judged_distance(body: Body, distance: f64) -> f64
     ensures { result ≡ judged_distance body distance }
 {
     match body {
-        Body::Sphere(_) => distance,
-        Body::Box(_) => distance,
+        Body::Sphere(_) | Body::Box(_) => distance,
         Body::Cylinder(c) => less_tilt(axis_of(c), c, distance),
     }
 }

@@ -1,12 +1,13 @@
 // The verdict on a cylinder, with the counts and the mark of its walk at the finest settings.
 ghost use Rattle.std.specs.Prelude.{◌≡◌};
-ghost use Rattle.section.specs.profile.Replies.{Answers};
+ghost use Rattle.section.specs.profile.Replies.{told, Answers};
 ghost use Rattle.walk.specs.settings.Settings.{finest};
-ghost use Rattle.bodies.specs.walk_verdicts.WalkVerdicts.{told, judged_walk, walk_verdict, FewCounted};
+ghost use Rattle.bodies.specs.walk_verdicts.WalkVerdicts.{judged_walk, walk_verdict, FewCounted};
 
-use super::shapes::{JudgedWalk, WalkVerdict};
+use super::shapes::JudgedWalk;
 use crate::verdicts::{collides, less_tilt};
-use walk::{Axis, CountedHit, Cylinder, cylinder_check, cylinder_distance, finest};
+use section::Refusal;
+use walk::{Axis, CountedHit, Cylinder, axis_of, cylinder_distance, cylinder_refusal, finest};
 
 // What is told of a hit.
 fn judged_walk(axis: Axis, cylinder: Cylinder, clearance: f64, h: CountedHit) -> JudgedWalk
@@ -21,15 +22,16 @@ fn judged_walk(axis: Axis, cylinder: Cylinder, clearance: f64, h: CountedHit) ->
     }
 }
 
-pub fn verdict_walk(section: &[f64], cylinder: Cylinder, clearance: f64) -> WalkVerdict
+pub fn verdict_walk(
+    section: &[f64],
+    cylinder: Cylinder,
+    clearance: f64,
+) -> Result<JudgedWalk, Refusal>
     ensures { Answers (told result) (walk_verdict section.now cylinder clearance) FewCounted }
 {
     let extra = [clearance];
-    let check = cylinder_check(section, cylinder, &extra[..], 0);
-    if check.number != 0 {
-        return WalkVerdict::Refused(check.number);
-    }
-    let axis = check.axis;
+    let axis = axis_of(cylinder);
+    cylinder_refusal(section, cylinder, axis, &extra[..], Ok(()))?;
     let counted = cylinder_distance(section, cylinder, axis, finest());
-    WalkVerdict::Judged(judged_walk(axis, cylinder, clearance, counted))
+    Ok(judged_walk(axis, cylinder, clearance, counted))
 }

@@ -9,9 +9,3 @@ pub struct JudgedWalk {
     pub waiting: usize,
     pub cut: bool,
 }
-
-#[derive(Clone, Copy)]
-pub enum WalkVerdict {
-    Judged(JudgedWalk),
-    Refused(u32),
-}

@@ -3,21 +3,22 @@ use Prim.Native.Nat.{ℕ}
 use mathlib.Core.List.{List}
 use mathlib.Core.Path.{◌≡◌, refl, sym, ap, subst, ◌∙◌}
 use lib.ListN.{length}
+use Rattle.std.specs.Prelude.{Result}
 use borrow.Author.Tests.{eq-eqb, ne_eqb}
 use Rattle.section.specs.profile.Refusals.{refusal}
-use Rattle.section.specs.profile.Replies.{Reply}
+use Rattle.section.specs.profile.Replies.{Reply, told}
+use Rattle.section.specs.declared.shapes.Refusal.{Refusal}
 use Rattle.store.specs.edits.Written.{written}
-use Rattle.store.specs.edits.Edits.{told, edit_answer, kept, space_after, Edited}
+use Rattle.store.specs.edits.Edits.{edit_answer, kept, space_after, Edited}
 use Rattle.store.specs.declared.edits.shapes.Role.{Role}
 use Rattle.store.specs.declared.edits.shapes.Place.{Place}
-use Rattle.store.specs.declared.edits.shapes.EditAnswer.{EditAnswer}
 use Rattle.capi.specs.handing.Interface.{Gives}
 use Rattle.capi.specs.given_edits.Editing.{role_of, edit_of, EditsSpace}
 use Rattle.capi.proofs.handing.Same.{gives}
 
 module _ (s : List ℕ) (n role : ℕ) (place : Place) (bytes : List ℕ) {held : ℕ} where
   pub edit_done :
-      {who : Role} {given : List ℕ} {a : EditAnswer} {after : List ℕ} {r end : ℕ} → length bytes ≡ 40 → who ≡ role_of role
+      {who : Role} {given : List ℕ} {a : Result ℕ Refusal} {after : List ℕ} {r end : ℕ} → length bytes ≡ 40 → who ≡ role_of role
       → given ≡ bytes → Edited s n who place given a after → Gives (λ (k : ℕ). k) (told a) r held end
       → EditsSpace (edit_of s n role place bytes) (written s n place bytes) r s after held end
   unfolding edit_of refusal space_after

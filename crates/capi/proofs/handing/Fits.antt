@@ -18,7 +18,9 @@ use Rattle.bodies.specs.Bodies.{alone_tests, body_distance, boxes_only}
 use Rattle.bodies.specs.declared.shapes.Body.{Body}
 use Rattle.bodies.specs.pairs.Pairs.{Won, nearer, pair_tests, pair_answer, pair_convex_answer, PairPromised, PairConvexPromised}
 use Rattle.bodies.proofs.pairs.Counts.{Small, pair_small, pair_convex_small}
-use Rattle.capi.specs.handing.Interface.{FitsPlaces}
+use Rattle.capi.specs.Calls.{pair_of}
+use Rattle.capi.specs.lists.Lists.{one_body_tests, body_at}
+use Rattle.capi.specs.handing.Interface.{FitsPlaces, or_else_reply}
 use Rattle.capi.specs.handing.Pairs.{WonFits}
 
 -- a cylinder's, at settings whose most boxes are a u32
@@ -62,3 +64,14 @@ pair_convex_fits chuck work c A =
     answer_fits (PairConvexPromised chuck work) (refusal (pair_tests chuck work (list_tests 3 256 c)))
     (nearer (boxes_only 0 (convex_distance c chuck)) (boxes_only 0 (convex_distance c work)))
     (pair_convex_small chuck work (convex_distance c chuck) (convex_distance c work)) A
+
+-- behind the body's own number
+pub pair_of_fits : (chuck work : List Float) (kind : ℕ) (numbers : List Float) {a : Reply Won}
+    → Answers a (pair_of chuck work kind numbers) (PairPromised chuck work (body_at kind numbers 0)) → OfValue WonFits a
+unfolding pair_of
+pair_of_fits chuck work kind numbers {a} A = go (refusal (one_body_tests kind numbers)) A
+  where
+    go : (n : ℕ) → Answers a (or_else_reply n (pair_answer chuck work (body_at kind numbers 0))) (PairPromised chuck work (body_at kind numbers 0))
+        → OfValue WonFits a
+    go zero B = pair_fits chuck work (body_at kind numbers 0) B
+    go (suc n) B = subst (λ (z : Reply Won). OfValue WonFits z) (sym B.equal) tt

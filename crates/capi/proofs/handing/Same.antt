@@ -1,7 +1,10 @@
 -- What an answer gives the caller, an equal answer gives.
 use Prim.Native.Nat.{ℕ, zero, suc}
 use mathlib.Core.Path.{◌≡◌, refl, subst, sym}
-use Rattle.section.specs.profile.Replies.{Reply, value, OfValue, Answers}
+use Rattle.section.specs.declared.shapes.Refusal.{Refusal}
+use Rattle.section.specs.profile.Numbers.{refusal_number}
+use Rattle.section.specs.profile.Replies.{Reply, value, turned_down, OfValue, Answers}
+use Rattle.section.proofs.profile.Numbered.{above_zero}
 use Rattle.section.proofs.profile.Replies.{owed}
 use Rattle.walk.specs.declared.shapes.CountedHit.{CountedHit}
 use Rattle.bodies.specs.pairs.Pairs.{Won}
@@ -21,13 +24,25 @@ module _ {A B : Type 0} {fields : A → B} {a b : Reply A} {n : ℕ} {held end :
 pub owes : {A : Type 0} {a b : Reply A} {P Q : A → Type 0} → ((x : A) → P x → Q x) → Answers a b P → OfValue Q a
 owes {a = a} {P = P} {Q = Q} f e = owed P Q f a e.owed
 
+-- a number of the interface's own is the answer; without one it is the call's
+module _ {A : Type 0} {P : A → Type 0} where
+  pub own_refused : (e : Refusal) {n : ℕ} (answer : Reply A) → refusal_number e ≡ n
+      → Answers (turned_down (refusal_number e)) (or_else_reply n answer) P
+  own_refused e answer h = rw (← h) (go (refusal_number e) (above_zero e))
+    where
+      go : (n : ℕ) → (n ≡ 0 → ⊥) → Answers (turned_down n) (or_else_reply n answer) P
+      go zero k = absurd (k refl)
+      go (suc n) k = record { equal = refl; owed = tt }
+
+  pub own_taken : {n : ℕ} {r answer : Reply A} → 0 ≡ n → Answers r answer P → Answers r (or_else_reply n answer) P
+  own_taken h a = rw (← h) a
+
+-- so that nothing that was lent changes, or the call's answer is given
 module _ {A B : Type 0} {P : A → Type 0} {fields : A → B} {held : B} where
-  -- a body's own number is the answer, and nothing that was lent changes
   pub body_refused : (n : ℕ) (answer : Reply A) → (n ≡ 0 → ⊥) → Measures P fields (or_else_reply n answer) n held held
   body_refused zero answer k = absurd (k refl)
   body_refused (suc n) answer k = record { gives = record { returned = refl; lent = refl }; owed = tt }
 
-  -- without one it is the call's
   pub body_taken : {answer : Reply A} {r : ℕ} {end : B} (n : ℕ) → n ≡ 0 → Measures P fields answer r held end
       → Measures P fields (or_else_reply n answer) r held end
   body_taken n z m = rw z m

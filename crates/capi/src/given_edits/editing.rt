@@ -1,11 +1,12 @@
 // An edit of a store in the space that the caller lends, its length afterwards in a lent place.
 ghost use Rattle.std.specs.Prelude.{◌≡◌, length};
-ghost use Rattle.store.specs.edits.Edits.{told};
+ghost use Rattle.section.specs.profile.Replies.{told};
 ghost use Rattle.store.specs.edits.Written.{written};
 ghost use Rattle.capi.specs.handing.Interface.{Gives};
 ghost use Rattle.capi.specs.given_edits.Editing.{role_of, edit_of, EditsSpace};
 
-use store::{Edit, EditAnswer, Place, Role};
+use section::Refusal;
+use store::{Edit, Place, Role};
 
 // 1 is the setter, any other number the operator.
 fn role_of(role: u32) -> Role
@@ -28,15 +29,15 @@ fn forty(bytes: &[u8]) -> [u8; 40]
 }
 
 // Puts the length afterwards into its place, and gives the number of a refusal.
-fn give_length(answer: EditAnswer, length_after: &mut usize) -> u32
+fn give_length(answer: Result<usize, Refusal>, length_after: &mut usize) -> u32
     ensures { Gives (λ n. n) (told answer) result length_after.old length_after.new }
 {
     match answer {
-        EditAnswer::Length(n) => {
+        Ok(n) => {
             *length_after = n;
             0
         }
-        EditAnswer::Refused(n) => n,
+        Err(refusal) => refusal.number(),
     }
 }
 
@@ -62,5 +63,5 @@ pub fn edit_given(
         let answer = store::edit_store(space, size, edit);
         return give_length(answer, length_after);
     }
-    12
+    Refusal::StoreLength.number()
 }

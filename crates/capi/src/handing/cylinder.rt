@@ -1,18 +1,11 @@
 // The hit of a cylinder, with its counts and its mark, in the lent places.
 ghost use Rattle.std.specs.Prelude.{◌≤◌, ◌≡◌};
-ghost use Rattle.section.specs.profile.Replies.{OfValue, value};
-ghost use Rattle.walk.specs.cylinders.Cylinders.{told};
-ghost use Rattle.capi.specs.handing.Interface.{Gives, places, counts, both, mark, hit_counts, cylinder_places, FitsPlaces};
+ghost use Rattle.section.specs.profile.Replies.{OfValue, told, value};
+ghost use Rattle.capi.specs.handing.Interface.{Gives, places, counts, both, hit_counts, cylinder_places, FitsPlaces};
 
 use super::distances::give;
-use section::Answer;
-use walk::{CountedAnswer, CountedHit};
-
-pub fn mark_of(cut: bool) -> u32
-    ensures { result ≡ mark cut }
-{
-    if cut { 1 } else { 0 }
-}
+use section::Refusal;
+use walk::CountedHit;
 
 // Puts the counts and the mark of a hit into the lent places.
 pub fn give_counts(h: CountedHit, boxes: &mut u32, waiting: &mut u32, cut: &mut u32)
@@ -21,7 +14,7 @@ pub fn give_counts(h: CountedHit, boxes: &mut u32, waiting: &mut u32, cut: &mut 
 {
     *boxes = h.boxes as u32;
     *waiting = h.waiting as u32;
-    *cut = mark_of(h.cut);
+    *cut = u32::from(h.cut);
 }
 
 // Puts a hit with its counts and mark into the lent places.
@@ -44,12 +37,12 @@ pub fn give_counted(
 {
     let hit = h.hit;
     give_counts(h, boxes, waiting, cut);
-    give(Answer::Hit(hit), distance, witness_z, witness_radius, edge)
+    give(Ok(hit), distance, witness_z, witness_radius, edge)
 }
 
 // Puts a cylinder's hit, its counts and its mark into the lent places, and gives the number of a refusal.
 pub fn give_cylinder(
-    answer: CountedAnswer,
+    answer: Result<CountedHit, Refusal>,
     distance: &mut f64,
     witness_z: &mut f64,
     witness_radius: &mut f64,
@@ -66,7 +59,7 @@ pub fn give_cylinder(
         (counts boxes.new waiting.new cut.new)) }
 {
     match answer {
-        CountedAnswer::Hit(h) => give_counted(
+        Ok(h) => give_counted(
             h,
             distance,
             witness_z,
@@ -76,6 +69,6 @@ pub fn give_cylinder(
             waiting,
             cut,
         ),
-        CountedAnswer::Refused(n) => n,
+        Err(refusal) => refusal.number(),
     }
 }

@@ -1,14 +1,13 @@
 // The hit of a distance, in the lent places.
-ghost use Rattle.section.specs.profile.Replies.{OfValue};
-ghost use Rattle.section.specs.Answers.{told};
+ghost use Rattle.section.specs.profile.Replies.{OfValue, told};
 ghost use Rattle.section.specs.Demand.{FewEdges};
 ghost use Rattle.capi.specs.handing.Interface.{Gives, places, hit_places};
 
-use section::Answer;
+use section::{CollisionHit, Refusal};
 
 // Puts a hit into the lent places, and gives the number of a refusal.
 pub fn give(
-    answer: Answer,
+    answer: Result<CollisionHit, Refusal>,
     distance: &mut f64,
     witness_z: &mut f64,
     witness_radius: &mut f64,
@@ -20,7 +19,7 @@ pub fn give(
         (places distance.new witness_z.new witness_radius.new edge.new) }
 {
     match answer {
-        Answer::Hit(h) => {
+        Ok(h) => {
             let at = h.witness;
             *distance = h.distance;
             *witness_z = at.z;
@@ -28,6 +27,6 @@ pub fn give(
             *edge = at.edge as u32;
             0
         }
-        Answer::Refused(n) => n,
+        Err(refusal) => refusal.number(),
     }
 }

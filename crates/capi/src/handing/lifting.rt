@@ -1,15 +1,16 @@
 // The hits whose witness is in the machine's axes, in the lent places.
-ghost use Rattle.section.specs.profile.Replies.{OfValue};
-ghost use Rattle.bodies.specs.lifted.Answers.{told, told_counted};
+ghost use Rattle.section.specs.profile.Replies.{OfValue, told};
 ghost use Rattle.capi.specs.handing.Interface.{Gives, counts, both};
 ghost use Rattle.capi.specs.handing.Lifting.{lifted, lifted_places, lifted_cylinder_places, FewLifted, LiftedFits};
 
 use super::cylinder::give_counts;
-use bodies::{Lifted, LiftedCounted, LiftedHit};
+use bodies::Lifted;
+use section::{CollisionHit, Refusal};
+use walk::CountedHit;
 
 // Puts a hit and its lifted witness into the lent places, and gives the number of a refusal.
 pub fn give_lifted(
-    answer: Lifted,
+    answer: Result<Lifted<CollisionHit>, Refusal>,
     distance: &mut f64,
     witness_x: &mut f64,
     witness_y: &mut f64,
@@ -24,7 +25,7 @@ pub fn give_lifted(
         edge.new) }
 {
     match answer {
-        Lifted::Hit(h) => {
+        Ok(h) => {
             let hit = h.hit;
             let at = h.witness;
             let plain = hit.witness;
@@ -35,13 +36,13 @@ pub fn give_lifted(
             *edge = plain.edge as u32;
             0
         }
-        Lifted::Refused(n) => n,
+        Err(refusal) => refusal.number(),
     }
 }
 
 // Puts a cylinder's hit, its lifted witness, its counts and its mark into the lent places, and gives the number of a refusal.
 pub fn give_lifted_cylinder(
-    answer: LiftedCounted,
+    answer: Result<Lifted<CountedHit>, Refusal>,
     distance: &mut f64,
     witness_x: &mut f64,
     witness_y: &mut f64,
@@ -51,8 +52,8 @@ pub fn give_lifted_cylinder(
     waiting: &mut u32,
     cut: &mut u32,
 ) -> u32
-    requires { OfValue LiftedFits (told_counted answer) }
-    ensures { Gives lifted_cylinder_places (told_counted answer) result
+    requires { OfValue LiftedFits (told answer) }
+    ensures { Gives lifted_cylinder_places (told answer) result
         (both (lifted distance.old witness_x.old witness_y.old witness_z.old
         edge.old)
         (counts boxes.old waiting.old cut.old))
@@ -61,13 +62,13 @@ pub fn give_lifted_cylinder(
         (counts boxes.new waiting.new cut.new)) }
 {
     match answer {
-        LiftedCounted::Hit(h) => {
+        Ok(h) => {
             let counted = h.hit;
             let hit = counted.hit;
             let witness = h.witness;
             give_counts(counted, boxes, waiting, cut);
             give_lifted(
-                Lifted::Hit(LiftedHit { hit, witness }),
+                Ok(Lifted { hit, witness }),
                 distance,
                 witness_x,
                 witness_y,
@@ -75,6 +76,6 @@ pub fn give_lifted_cylinder(
                 edge,
             )
         }
-        LiftedCounted::Refused(n) => n,
+        Err(refusal) => refusal.number(),
     }
 }

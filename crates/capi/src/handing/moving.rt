@@ -1,14 +1,14 @@
 // The report of a move, in the lent places.
-ghost use Rattle.bodies.specs.moves.Moves.{told};
+ghost use Rattle.section.specs.profile.Replies.{told};
 ghost use Rattle.capi.specs.handing.Interface.{Gives};
 ghost use Rattle.capi.specs.handing.Moves.{move_places, report_places};
 
-use super::cylinder::mark_of;
-use bodies::MoveAnswer;
+use bodies::Report;
+use section::Refusal;
 
 // Puts a report into the lent places, and gives the number of a refusal.
 pub fn give_report(
-    answer: MoveAnswer,
+    answer: Result<Report, Refusal>,
     distance: &mut f64,
     step: &mut u32,
     collides: &mut u32,
@@ -22,14 +22,14 @@ pub fn give_report(
         boxes.new) }
 {
     match answer {
-        MoveAnswer::Moved(r) => {
+        Ok(r) => {
             *distance = r.distance;
             *step = r.step;
-            *collides = mark_of(r.collides);
-            *colliding_step = r.colliding_step;
+            *collides = u32::from(r.colliding_step.is_some());
+            *colliding_step = r.colliding_step.unwrap_or(0);
             *boxes = r.boxes;
             0
         }
-        MoveAnswer::Refused(n) => n,
+        Err(refusal) => refusal.number(),
     }
 }

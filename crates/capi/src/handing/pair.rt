@@ -1,15 +1,37 @@
 // The winner of a pair, 0 the chuck or 1 the work, and its hit, in the lent places.
+ghost use Rattle.std.specs.Prelude.{◌≡◌};
 ghost use Rattle.section.specs.profile.Replies.{OfValue};
-ghost use Rattle.bodies.specs.pairs.Pairs.{told};
-ghost use Rattle.capi.specs.handing.Interface.{Gives, places, counts, both};
+ghost use Rattle.bodies.specs.pairs.Pairs.{told, won_by};
+ghost use Rattle.capi.specs.handing.Interface.{Gives, places, counts, both, mark};
 ghost use Rattle.capi.specs.handing.Pairs.{pair_places, won_places, WonFits};
 
 use super::cylinder::give_counted;
-use bodies::PairAnswer;
+use bodies::Won;
+use section::Refusal;
+use walk::CountedHit;
+
+// 1 where the work won.
+fn mark_of(won: Won) -> u32
+    ensures { result ≡ mark (won_by won).work }
+{
+    match won {
+        Won::Chuck(_) => 0,
+        Won::Work(_) => 1,
+    }
+}
+
+fn hit_of(won: Won) -> CountedHit
+    ensures { result ≡ (won_by won).counted }
+{
+    match won {
+        Won::Chuck(h) => h,
+        Won::Work(h) => h,
+    }
+}
 
 // Puts the winner and its hit into the lent places, and gives the number of a refusal.
 pub fn give_pair(
-    answer: PairAnswer,
+    answer: Result<Won, Refusal>,
     winner: &mut u32,
     distance: &mut f64,
     witness_z: &mut f64,
@@ -29,10 +51,10 @@ pub fn give_pair(
         (counts boxes.new waiting.new cut.new))) }
 {
     match answer {
-        PairAnswer::Chuck(h) => {
-            *winner = 0;
+        Ok(won) => {
+            *winner = mark_of(won);
             give_counted(
-                h,
+                hit_of(won),
                 distance,
                 witness_z,
                 witness_radius,
@@ -42,19 +64,6 @@ pub fn give_pair(
                 cut,
             )
         }
-        PairAnswer::Work(h) => {
-            *winner = 1;
-            give_counted(
-                h,
-                distance,
-                witness_z,
-                witness_radius,
-                edge,
-                boxes,
-                waiting,
-                cut,
-            )
-        }
-        PairAnswer::Refused(n) => n,
+        Err(refusal) => refusal.number(),
     }
 }

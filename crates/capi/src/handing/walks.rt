@@ -1,15 +1,15 @@
 // A verdict with what its walk counted, in the lent places.
-ghost use Rattle.section.specs.profile.Replies.{OfValue};
-ghost use Rattle.bodies.specs.walk_verdicts.WalkVerdicts.{told, FewCounted};
+ghost use Rattle.section.specs.profile.Replies.{OfValue, told};
+ghost use Rattle.bodies.specs.walk_verdicts.WalkVerdicts.{FewCounted};
 ghost use Rattle.capi.specs.handing.Interface.{Gives, counts};
 ghost use Rattle.capi.specs.handing.Walks.{judged_places, walk_places};
 
-use super::cylinder::mark_of;
-use bodies::WalkVerdict;
+use bodies::JudgedWalk;
+use section::Refusal;
 
 // Puts a verdict, the counts and the mark into the lent places, and gives the number of a refusal.
 pub fn give_walk(
-    verdict: WalkVerdict,
+    verdict: Result<JudgedWalk, Refusal>,
     collision: &mut u32,
     boxes: &mut u32,
     waiting: &mut u32,
@@ -21,13 +21,13 @@ pub fn give_walk(
         (judged_places collision.new (counts boxes.new waiting.new cut.new)) }
 {
     match verdict {
-        WalkVerdict::Judged(w) => {
-            *collision = mark_of(w.collision);
+        Ok(w) => {
+            *collision = u32::from(w.collision);
             *boxes = w.boxes as u32;
             *waiting = w.waiting as u32;
-            *cut = mark_of(w.cut);
+            *cut = u32::from(w.cut);
             0
         }
-        WalkVerdict::Refused(n) => n,
+        Err(refusal) => refusal.number(),
     }
 }

@@ -1,12 +1,13 @@
 // Bodies as C gives them: a kind, 2 a sphere, 3 a box, 4 a cylinder, and seven numbers, of which it takes the first.
 ghost use Rattle.std.specs.Prelude.{◌≤◌, ◌+◌, ◌*◌, ◌≡◌, length, take};
+ghost use Rattle.section.specs.profile.Numbers.{refused_by};
 ghost use Rattle.section.specs.profile.Refusals.{refusal, any_of};
 ghost use Rattle.capi.specs.lists.Lists.{other_kind, one_body_tests, lists_tests};
 ghost use Rattle.capi.specs.lists.Lists.{sphere_at, box_at, cylinder_at, body_at, bodies_of, front_of};
 
 use arith::Vec3;
 use bodies::Body;
-use section::{Aabb, Sphere};
+use section::{Aabb, Refusal, Sphere};
 use walk::Cylinder;
 
 pub fn other_kind(kind: u32) -> bool
@@ -18,50 +19,48 @@ pub fn other_kind(kind: u32) -> bool
     4 < kind
 }
 
-// Of one body: number 1 where it has not seven numbers, then 14 for another kind.
+// Of one body: it has seven numbers; then its kind.
 #[tactic(auto, unfolding(section::specs::profile::Refusals::refusal))]
-pub fn one_body_refusal(kind: u32, numbers: &[f64]) -> u32
-    ensures { result ≡ refusal (one_body_tests kind numbers.now) }
+pub fn one_body_refusal(kind: u32, numbers: &[f64]) -> Result<(), Refusal>
+    ensures { refused_by result ≡ refusal (one_body_tests kind numbers.now) }
 {
     if numbers.len() != 7 {
-        return 1;
+        return Err(Refusal::OddCount);
     }
     if other_kind(kind) {
-        return 14;
+        return Err(Refusal::WrongKind);
     }
-    0
+    Ok(())
 }
 
 fn any_other_kind(kinds: &[u32]) -> bool
     ensures { result ≡ any_of other_kind kinds.now }
 {
-    let mut i = 0;
-    while i < kinds.len() {
-        if other_kind(kinds[i]) {
+    for kind in kinds {
+        if other_kind(*kind) {
             return true;
         }
-        i += 1;
     }
     false
 }
 
-// Number 1 where a body has not seven numbers, then 14 for a kind, of at most 64.
-pub fn lists_refusal(kinds: &[u32], numbers: &[f64]) -> u32
-    ensures { result ≡ refusal (lists_tests kinds.now numbers.now) }
+// A body has seven numbers; then the kinds, of at most 64.
+pub fn lists_refusal(kinds: &[u32], numbers: &[f64]) -> Result<(), Refusal>
+    ensures { refused_by result ≡ refusal (lists_tests kinds.now numbers.now) }
 {
     if numbers.len() % 7 != 0 {
-        return 1;
+        return Err(Refusal::OddCount);
     }
     if numbers.len() / 7 != kinds.len() {
-        return 1;
+        return Err(Refusal::OddCount);
     }
     if 64 < kinds.len() {
-        return 0;
+        return Ok(());
     }
     if any_other_kind(kinds) {
-        return 14;
+        return Err(Refusal::WrongKind);
     }
-    0
+    Ok(())
 }
 
 fn sphere_at(l: &[f64], at: usize) -> Sphere
@@ -145,10 +144,8 @@ pub fn bodies_of(kinds: &[u32], numbers: &[f64], n: usize) -> [Body; 64]
         r1: 0.0,
     };
     let mut bodies = [Body::Box(none); 64];
-    let mut i = 0;
-    while i < n {
+    for i in 0..n {
         bodies[i] = body_at(kinds[i], numbers, 7 * i);
-        i += 1;
     }
     bodies
 }

@@ -1,5 +1,5 @@
 -- `input::keep`. What was kept so far is the front of the piece.
-use Prim.Native.Nat.{◌+◌, ◌-◌, ◌≤◌}
+use Prim.Native.Nat.{◌+◌}
 use mathlib.Core.Path.{◌≡◌}
 use lib.ListN.{length, take}
 use Rattle.listings.specs.store_listing.Steps.{Written}
@@ -7,10 +7,6 @@ use Rattle.input.proofs.keep.Given as goal
 
 abbrev pub invariant-loop-i : goal.invariant-loop-i
 invariant-loop-i l = record {
-  within : l.i ≤ length l.piece;
   room : length l.buffer ≡ length l.initial.buffer;
   kept : Written l.initial.buffer l.from (take l.i l.piece) l.buffer (l.from + l.i);
 }
-
-abbrev pub decreases-loop-i : goal.decreases-loop-i
-decreases-loop-i l = length l.piece - l.i

@@ -7,8 +7,7 @@ use mathlib.Core.Path.{◌≡◌, refl, sym, ap, ◌∙◌}
 use lib.ListN.{length, take}
 use lib.Seq.{take_all}
 use Rattle.store.specs.Store.{and_then, length_answer, store_answer}
-use Rattle.store.specs.declared.answers.StoreAnswer.{StoreAnswer}
-use Rattle.store.specs.declared.answers.StoreAnswer.TheVariants.{Accepted, Refused}
+use Rattle.store.specs.Answers.{StoreAnswer, Accepted, Refused}
 use Rattle.store.proofs.Reading.{length_accepted}
 use Rattle.listings.specs.store_listing.Listing.{listing_of, listing, input_listing}
 

@@ -27,8 +27,7 @@ use Rattle.store.specs.Store.{vertex_numbers, vertices, store_answer, chained}
 use Rattle.listings.specs.store_listing.Text.{text, decimal_at_most, decimal}
 use Rattle.listings.specs.store_listing.Listing.{sphere_at, box_at, body_answer, answer_text, body_line, record_line}
 use Rattle.listings.specs.store_listing.Listing.{section_line, accepted_text}
-use Rattle.store.specs.declared.answers.StoreAnswer.{StoreAnswer}
-use Rattle.store.specs.declared.answers.StoreAnswer.TheVariants.{Accepted, Refused}
+use Rattle.store.specs.Answers.{StoreAnswer, Accepted, Refused}
 use Rattle.listings.proofs.store_listing.Digits.{few_digits}
 use Rattle.listings.proofs.store_listing.Pieces.{length_hit}
 use Rattle.store.proofs.Reading.{accepted_sound, section_accepted}

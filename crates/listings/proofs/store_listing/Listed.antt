@@ -5,13 +5,15 @@ use mathlib.Core.List.{List}
 use mathlib.Core.Path.{◌≡◌, sym, ap}
 use lib.ListN.{length, drop, length-append}
 use lib.Ieee.{Float}
+use Rattle.std.specs.Prelude.{Ok, Err}
+use Rattle.section.specs.profile.Numbers.{refusal_number}
 use Rattle.store.specs.Store.{vertices, store_answer, chained}
 use Rattle.listings.specs.store_listing.Text.{text}
 use Rattle.listings.specs.store_listing.Listing.{refusal_line, accepted_text, listing, list_answer, text_after, StoreListed, Prints}
 use Rattle.listings.specs.store_listing.Steps.{Written}
-use Rattle.store.specs.declared.answers.StoreAnswer.{StoreAnswer}
-use Rattle.store.specs.declared.answers.StoreAnswer.TheVariants.{Accepted, Refused}
-use Rattle.listings.specs.declared.store_listing.answers.ListAnswer.TheVariants.{Bytes, Refused as NotListed}
+use Rattle.store.specs.Answers.{StoreAnswer, Accepted, Refused}
+use Rattle.store.specs.declared.answers.RefusedStore.{RefusedStore}
+use Rattle.listings.specs.store_listing.Answers.{Bytes, NotListed}
 use Rattle.listings.proofs.store_listing.Digits.{few_digits}
 use Rattle.listings.proofs.store_listing.Largest.{every_listing_fits}
 use Rattle.listings.proofs.store_listing.Writing.{front_written}
@@ -24,8 +26,8 @@ never e = let z : ◌≡◌ {A = ℕ} 0 1 = cc in omega arith
 
 -- a refused store leaves the text as it was
 pub not_listed :
-    (b given : List ℕ) {n k : ℕ} → store_answer b ≡ Refused n k
-    → StoreListed b given (NotListed n k) given
+    (b given : List ℕ) {e : RefusedStore} → store_answer b ≡ Refused (refusal_number e.refusal) e.at
+    → StoreListed b given (Err e) given
 not_listed b given e = record { answer = rw e; buffer = rw e }
 
 module _
@@ -41,7 +43,7 @@ module _
 
     pub listed :
         (given : List ℕ) {after : List ℕ} {r : ℕ} → length given ≡ 28923 → Written given 0 (accepted_text b s ks) after r
-        → StoreListed b given (Bytes r) after
+        → StoreListed b given (Ok r) after
     listed given size written =
         let printed = front_written written (listing_room given size) in
         record {

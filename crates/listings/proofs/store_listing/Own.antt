@@ -17,7 +17,7 @@ use Rattle.section.specs.boxes.Boxes.{box_distance}
 use Rattle.section.specs.Answers.{sphere_answer, box_answer}
 use Rattle.store.specs.Kinds.{is_sphere}
 use Rattle.store.specs.Store.{vertices, store_answer, chained}
-use Rattle.store.specs.declared.answers.StoreAnswer.TheVariants.{Accepted}
+use Rattle.store.specs.Answers.{Accepted}
 use Rattle.store.proofs.Axis.{accepted_above}
 use Rattle.store.proofs.Reading.{accepted_sound, section_passes}
 use Rattle.listings.specs.store_listing.Listing.{sphere_at, box_at, body_answer}

@@ -6,9 +6,10 @@ use mathlib.Core.Path.{◌≡◌, sym, ap, ◌∙◌}
 use lib.ListN.{length, take, drop, get_or, length-append, take-append-drop}
 use lib.Ieee.{Float}
 use Rattle.section.specs.declared.profile.shapes.CollisionHit.{CollisionHit}
-use Rattle.section.specs.Answers.{told}
-use Rattle.section.specs.declared.shapes.Answer.{Answer}
-use Rattle.section.specs.declared.shapes.Answer.TheVariants.{Hit, Refused}
+use Rattle.std.specs.Prelude.{Result, Ok, Err}
+use Rattle.section.specs.declared.shapes.Refusal.{Refusal}
+use Rattle.section.specs.profile.Numbers.{refusal_number}
+use Rattle.section.specs.profile.Replies.{told}
 use Rattle.listings.specs.store_listing.Text.{text, decimal}
 use Rattle.listings.specs.store_listing.Listing.{body_answer, field_text, edge_text, hit_text, answer_text, body_line}
 use Rattle.listings.specs.store_listing.Steps.{Written}
@@ -36,16 +37,17 @@ length_hit h =
       length_edge h.witness.edge,
     ))
 
-module _ (at : ℕ) (a : Answer) {most : ℕ} (room : at + length (answer_text (told a)) ≤ most) where
-  pub hit_room : {h : CollisionHit} → a ≡ Hit h → at + length (hit_text h) ≤ most
+module _ (at : ℕ) (a : Result CollisionHit Refusal) {most : ℕ} (room : at + length (answer_text (told a)) ≤ most) where
+  pub hit_room : {h : CollisionHit} → a ≡ Ok h → at + length (hit_text h) ≤ most
   hit_room e = rw e at room
 
-  pub refused_room : {n : ℕ} → a ≡ Refused n → at + length (text " refused " ++ decimal n) ≤ most
-  refused_room e = rw e at room
+  pub refused_room :
+      {e : Refusal} {n : ℕ} → a ≡ Err e → n ≡ refusal_number e → at + length (text " refused " ++ decimal n) ≤ most
+  refused_room is same = rw (is, ← same) at room
 
 -- ---- the line of a body, by the answer of its query
 pub line_of :
-    (b : List ℕ) (s : List Float) (k : ℕ) (a : Answer) → told a ≡ body_answer b s k
+    (b : List ℕ) (s : List Float) (k : ℕ) (a : Result CollisionHit Refusal) → told a ≡ body_answer b s k
     → body_line b s k ≡ decimal k ++ answer_text (told a) ++ text "\n"
 unfolding body_line
 line_of b s k a e = rw (← e)

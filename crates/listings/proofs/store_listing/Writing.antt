@@ -5,7 +5,7 @@ use native.Mathlib.Omega.{arith}
 use mathlib.Core.List.{List, [], ◌∷◌, ◌++◌}
 use mathlib.Core.Path.{◌≡◌, refl, sym, ap, ◌∙◌}
 use lib.ListN.{length, take, drop, get_or, set, length-append}
-use lib.Seq.{sets, sets-eq, length-sets, take_all}
+use lib.Seq.{sets, sets-eq, length-sets}
 use Rattle.listings.specs.store_listing.Listing.{Prints}
 use Rattle.listings.specs.store_listing.Steps.{Written}
 use Rattle.store.proofs.Lists.{take_more}
@@ -44,11 +44,6 @@ pub word_more :
     → Written l at (take (i + 1) w) (set l' (at + i) (get_or w i 0)) (at + (i + 1))
 word_more {l} {l'} {at} w i now h =
     rw (take_more w i 0 h) (then now (record { text = refl; end = omega arith }))
-
-pub word_all :
-    {l l' : List ℕ} {at : ℕ} (w : List ℕ) (i : ℕ) → Written l at (take i w) l' (at + i) → length w ≤ i
-    → Written l at w l' (at + i)
-word_all w i now h = rw (take_all i w h) at now
 
 -- what is written from the front on
 pub front_of_lem : (l t : List ℕ) → length t ≤ length l → sets l 0 t ≡ t ++ drop (length t) l

@@ -1,6 +1,6 @@
 -- The listing: `section N`, then a line for each body; of a refused store only `refused N at K`. Each line ends in a
 -- newline.
-use Rattle.std.specs.Prelude.{ℕ, ◌||◌, cond, ◌≡◌, length, take, drop, Float}
+use Rattle.std.specs.Prelude.{ℕ, ◌||◌, cond, ◌≡◌, length, take, drop, Float, Result}
 use mathlib.Core.List.{List, [], ◌++◌, flat_map}
 use Rattle.section.specs.profile.Vertices.{count}
 use Rattle.section.specs.profile.Replies.{Reply, value, turned_down}
@@ -12,10 +12,9 @@ use Rattle.store.specs.Records.{number}
 use Rattle.store.specs.Kinds.{is_sphere, is_box}
 use Rattle.store.specs.Store.{and_then, vertices, length_answer, store_answer, chained}
 use Rattle.listings.specs.store_listing.Text.{text, decimal, bits}
-use Rattle.store.specs.declared.answers.StoreAnswer.{StoreAnswer}
-use Rattle.store.specs.declared.answers.StoreAnswer.TheVariants.{Accepted, Refused as Turned}
-use Rattle.listings.specs.declared.store_listing.answers.ListAnswer.{ListAnswer}
-use Rattle.listings.specs.declared.store_listing.answers.ListAnswer.TheVariants.{Bytes, Refused as NotListed}
+use Rattle.store.specs.Answers.{StoreAnswer, Accepted, Refused as Turned}
+use Rattle.store.specs.declared.answers.RefusedStore.{RefusedStore}
+use Rattle.listings.specs.store_listing.Answers.{ListAnswer, Bytes, NotListed, told}
 
 -- kind 2: sphere x, y, z, radius
 abbrev pub sphere_at : List ℕ → ℕ → Sphere
@@ -89,8 +88,8 @@ abbrev pub text_after : StoreAnswer → List ℕ → List ℕ → List ℕ
 text_after Accepted l given = l ++ drop (length l) given
 text_after (Turned n k) l given = given
 
-pub record StoreListed (b given : List ℕ) (r : ListAnswer) (after : List ℕ) : Type 0 where
-  pub answer : r ≡ list_answer (store_answer b) (listing b)
+pub record StoreListed (b given : List ℕ) (r : Result ℕ RefusedStore) (after : List ℕ) : Type 0 where
+  pub answer : told r ≡ list_answer (store_answer b) (listing b)
   pub buffer : after ≡ text_after (store_answer b) (listing b) given
 
 -- r counts the bytes of l; they stand at the front, and the rest is as it was given

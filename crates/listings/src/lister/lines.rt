@@ -1,15 +1,15 @@
 // The lines of a listing.
 ghost use mathlib.Core.List.{flat_map};
 ghost use Rattle.std.specs.Prelude.{◌+◌, ◌≤◌, length};
-ghost use Rattle.section.specs.Answers.{told};
+ghost use Rattle.section.specs.profile.Replies.{told};
 ghost use Rattle.listings.specs.store_listing.Listing.{answer_text, field_text, edge_text, hit_text, body_line, record_line};
 ghost use Rattle.listings.specs.store_listing.Listing.{section_line, refusal_line};
 ghost use Rattle.listings.specs.store_listing.Steps.{Written};
 
 use super::bodies::body_answer;
 use crate::store_listing::{put_bits, put_decimal, put_word};
-use section::{Answer, CollisionHit};
-use store::kind_of;
+use section::{CollisionHit, Refusal};
+use store::{Kind, is_kind};
 
 // A space, and the bits of x.
 fn put_field(text: &mut [u8], at: usize, x: f64) -> usize
@@ -41,15 +41,15 @@ fn put_hit(text: &mut [u8], at: usize, hit: CollisionHit) -> usize
     put_edge(text, c, witness.edge)
 }
 
-fn put_answer(text: &mut [u8], at: usize, answer: Answer) -> usize
+fn put_answer(text: &mut [u8], at: usize, answer: Result<CollisionHit, Refusal>) -> usize
     requires { at + length (answer_text (told answer)) ≤ length text.old }
     ensures { Written text.old at (answer_text (told answer)) text.new result }
 {
     match answer {
-        Answer::Hit(hit) => put_hit(text, at, hit),
-        Answer::Refused(number) => {
+        Ok(hit) => put_hit(text, at, hit),
+        Err(refusal) => {
             let a = put_word(text, at, b" refused ");
-            put_decimal(text, a, number as u64)
+            put_decimal(text, a, refusal.number() as u64)
         }
     }
 }
@@ -69,11 +69,7 @@ fn put_record_line(store: &[u8], s: &[f64], k: u32, text: &mut [u8], at: usize) 
     requires { at + length (record_line store.now s.now k) ≤ length text.old }
     ensures { Written text.old at (record_line store.now s.now k) text.new result }
 {
-    let kind = kind_of(store, k);
-    if kind == 2 {
-        return put_body_line(store, s, k, text, at);
-    }
-    if kind == 3 {
+    if is_kind(store, k, Kind::Sphere) || is_kind(store, k, Kind::Box) {
         return put_body_line(store, s, k, text, at);
     }
     at
@@ -85,10 +81,8 @@ pub fn put_lines(store: &[u8], s: &[f64], order: &[u32], text: &mut [u8], from: 
         Written text.old from lines text.new result }
 {
     let mut at = from;
-    let mut i = 0;
-    while i < order.len() {
-        at = put_record_line(store, s, order[i], text, at);
-        i += 1;
+    for k in order {
+        at = put_record_line(store, s, *k, text, at);
     }
     at
 }

@@ -5,8 +5,7 @@ ghost use Rattle.listings.specs.store_listing.Listing.{accepted_text, refusal_li
 ghost use Rattle.listings.specs.store_listing.Steps.{Written};
 
 use super::lines::{put_lines, put_refusal_line, put_section_line};
-use crate::store_listing::ListAnswer;
-use store::{Filled, StoreAnswer, length_answer, read_chain, read_section};
+use store::{RefusedStore, length_answer, read_chain, read_section};
 
 fn put_accepted(store: &[u8], s: &[f64], order: &[u32], text: &mut [u8]) -> usize
     requires { length (accepted_text store.now s.now order.now) ≤ length text.old }
@@ -20,25 +19,14 @@ fn put_accepted(store: &[u8], s: &[f64], order: &[u32], text: &mut [u8]) -> usiz
 // How many bytes the listing has, at the front of the text, or the refusal, with the text as it
 // was. No listing is longer than the text: 500 bodies beside 11 vertices, with the longest indices and
 // edge 10.
-pub fn list_store(store: &[u8], text: &mut [u8; 28923]) -> ListAnswer
+pub fn list_store(store: &[u8], text: &mut [u8; 28923]) -> Result<usize, RefusedStore>
     ensures { StoreListed store.now text.old result text.new }
 {
     let mut order = [0u32; 512];
     let mut space = [0.0; 512];
-    let chained = read_chain(store, &mut order);
-    match chained {
-        Filled::Refused(number, k) => ListAnswer::Refused(number, k),
-        Filled::Front(n) => {
-            let section = read_section(store, &order[..n], &mut space);
-            match section {
-                Filled::Refused(number, k) => ListAnswer::Refused(number, k),
-                Filled::Front(m) => {
-                    let bytes = put_accepted(store, &space[..m], &order[..n], text);
-                    ListAnswer::Bytes(bytes)
-                }
-            }
-        }
-    }
+    let n = read_chain(store, &mut order)?;
+    let m = read_section(store, &order[..n], &mut space)?;
+    Ok(put_accepted(store, &space[..m], &order[..n], text))
 }
 
 // Puts the line of a refusal at the front of the text, and says how many bytes it has.
@@ -52,10 +40,9 @@ pub fn refusal_line(number: u32, k: u32, text: &mut [u8; 33]) -> usize
 fn put_listing(store: &[u8], text: &mut [u8; 28923]) -> usize
     ensures { Prints (listing_specs.listing store.now) text.old text.new result }
 {
-    let answer = list_store(store, text);
-    match answer {
-        ListAnswer::Bytes(n) => n,
-        ListAnswer::Refused(number, k) => put_refusal_line(number, k, text),
+    match list_store(store, text) {
+        Ok(n) => n,
+        Err(refused) => put_refusal_line(refused.refusal.number(), refused.at, text),
     }
 }
 
@@ -65,9 +52,8 @@ pub fn list_input(buffer: &[u8; 20480], n: usize, text: &mut [u8; 28923]) -> usi
     ensures { Prints (input_listing n buffer.now) text.old text.new result }
 {
     let room: &[u8] = buffer;
-    let whole = length_answer(n);
-    match whole {
-        StoreAnswer::Refused(number, k) => put_refusal_line(number, k, text),
-        StoreAnswer::Accepted => put_listing(&room[..n], text),
+    match length_answer(n) {
+        Ok(()) => put_listing(&room[..n], text),
+        Err(length) => put_refusal_line(length.refusal.number(), length.at, text),
     }
 }

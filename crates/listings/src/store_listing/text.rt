@@ -19,12 +19,8 @@ pub fn put_word(text: &mut [u8], at: usize, word: &[u8]) -> usize
     requires { at + length word.now ≤ length text.old }
     ensures { Written text.old at word.now text.new result }
 {
-    let mut i = 0;
-    while i < word.len() {
-        text[at + i] = word[i];
-        i += 1;
-    }
-    at + i
+    store::put(text, at, word);
+    at + word.len()
 }
 
 // `0` to `9`, then `a` to `f`

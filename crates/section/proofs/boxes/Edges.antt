@@ -17,7 +17,7 @@ use Rattle.section.specs.declared.profile.shapes.Edge.{Edge}
 use Rattle.section.specs.declared.profile.shapes.Witness.{Witness}
 use Rattle.section.proofs.profile.Nearest.{every, Source, source, start, Supplied, supplied, taken}
 use Rattle.section.proofs.profile.Numbers.{infinite}
-use Rattle.section.proofs.profile.Steps.{pick, upto_keeps}
+use Rattle.section.proofs.profile.Steps.{pick, pick_some, upto_keeps}
 use Rattle.section.specs.segments.Clip.{clip}
 use Rattle.section.specs.segments.Segments.{segments}
 use Rattle.section.specs.points.Points.{point_distance}
@@ -28,7 +28,7 @@ use Rattle.section.proofs.boxes.Held.{edge_held}
 own : (x : Aabb) (e : Edge) → (edge_box x e).witness.edge ≡ e.number
 unfolding edge_box segments
 own x e =
-    pick Own (clip x e.a e.b).any (λ h. refl)
+    pick_some Own (clip x e.a e.b) (λ c h. refl)
     (λ h. upto_keeps Own (λ k best. nearer best (side k)) (hit ∞ (on e.number e.a)) 4 refl
     (λ k l b B. pick Own ((side k).distance ≺ b.distance) {x = side k} {y = b} (λ h. refl) (λ h. B)))
   where

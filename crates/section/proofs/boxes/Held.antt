@@ -9,7 +9,7 @@ use Rattle.section.specs.declared.profile.shapes.Aabb.{Aabb}
 use Rattle.section.specs.declared.profile.shapes.CollisionHit.{CollisionHit}
 use Rattle.section.specs.declared.profile.shapes.Edge.{Edge}
 use Rattle.section.proofs.profile.Numbers.{Held, infinite, nearest_number}
-use Rattle.section.proofs.profile.Steps.{pick}
+use Rattle.section.proofs.profile.Steps.{pick_some}
 use Rattle.section.specs.segments.Clip.{clip}
 use Rattle.section.specs.segments.Segments.{segments}
 use Rattle.section.proofs.segments.Held.{segments_held}
@@ -18,7 +18,7 @@ use Rattle.section.specs.boxes.Boxes.{corners, edge_box}
 pub edge_held : (x : Aabb) (e : Edge) → Held (edge_box x e)
 unfolding edge_box
 edge_held x e =
-    pick Held (clip x e.a e.b).any (λ h. number_held binary64 𝟘 zero_number)
+    pick_some Held (clip x e.a e.b) (λ c h. number_held binary64 𝟘 zero_number)
     (λ h. number_held binary64 (nearest_of side none 4).distance
     (nearest_number side none 4 infinite (λ k. segments_held e (vertex_at (corners x) k) (end_at (corners x) k))))
   where

@@ -5,6 +5,7 @@ use Prim.Native.Nat.{ℕ}
 use mathlib.Core.Bool.{false}
 use mathlib.Core.Path.{◌≡◌, subst, sym}
 use lib.Ieee.{Float}
+use Rattle.std.specs.Prelude.{None}
 use Rattle.arith.specs.F64.{◌≺◌}
 use Rattle.arith.proofs.Laws.OrderHeld.{inf_not_less}
 use Rattle.section.specs.profile.Vertices.{nearer, nearest_of, upto, vertex, vertex_at, end_at}
@@ -13,8 +14,8 @@ use Rattle.section.specs.declared.profile.shapes.CollisionHit.{CollisionHit}
 use Rattle.section.specs.declared.profile.shapes.Edge.{Edge}
 use Rattle.section.specs.declared.profile.shapes.Vertex.{Vertex}
 use Rattle.section.proofs.profile.Steps.{pick}
-use Rattle.section.specs.segments.Clip.{clip, outside}
-use Rattle.section.specs.segments.Legs.{Hopeless}
+use Rattle.section.specs.segments.Clip.{clip}
+use Rattle.section.specs.segments.Hopeless.{Hopeless}
 use Rattle.section.specs.segments.Segments.{segments}
 use Rattle.section.specs.ranges.Ranges.{gap_between, Has, range, ranges_of, sides_of}
 use Rattle.section.specs.declared.ranges.shapes.Range.{Range}
@@ -66,7 +67,7 @@ module _ (x : Aabb) (e : Edge) (F : HeldBeside x e) {sides g : Sides} (i : sides
     unfolding upto
     four s best b e₀ e₁ e₂ e₃ = keep _ (s 3) (keep _ (s 2) (keep _ (s 1) (keep best (s 0) b e₀) e₁) e₂) e₃
 
-    none_nearer : clip x e.a e.b ≡ outside
+    none_nearer : clip x e.a e.b ≡ None
         → ((c d : Vertex) → Has sides.z c.z d.z → Has sides.r c.r d.r → NotUnder (segments e c d))
         → NotUnder (edge_box x e)
     unfolding edge_box
@@ -78,7 +79,7 @@ module _ (x : Aabb) (e : Edge) (F : HeldBeside x e) {sides g : Sides} (i : sides
         (k _ _ (along_z _ _ (has_back _ _ F.z0 F.z1)) (along_r _ _ (has_end _ _ F.r0 F.r1)))
         (k _ _ (along_z _ _ (has_start _ _ F.z0 F.z1)) (along_r _ _ (has_back _ _ F.r0 F.r1))))
 
-    pub passed : Hopeless (gap_between g.z sides.z) (gap_between g.r sides.r) least → clip x e.a e.b ≡ outside
+    pub passed : Hopeless (gap_between g.z sides.z) (gap_between g.r sides.r) least → clip x e.a e.b ≡ None
         → NotUnder (edge_box x e)
     passed w m =
         none_nearer m (λ c d z r. hopeless_segment least e c d g.z g.r sides.z sides.r edge_z edge_r z r w)

@@ -6,6 +6,7 @@ use mathlib.Core.List.{List}
 use mathlib.Core.Path.{◌≡◌, ap, refl, sym, subst, ◌∙◌}
 use native.Mathlib.Omega.{arith}
 use lib.Dec.{T}
+use Rattle.std.specs.Prelude.{Option, None, Some}
 use lib.Ieee.{Float, binary64, lt, neg, of_bits}
 use Rattle.arith.specs.F64.{◌≺◌, 𝟘, ∞, e_9}
 use Rattle.arith.proofs.Laws.OrderHeld.{true→T, lt_trans_held, number_held}
@@ -14,6 +15,7 @@ use Rattle.section.specs.profile.Vertices.{on, hit, count, vertex_at, end_at, ed
 use Rattle.section.specs.declared.profile.shapes.Aabb.{Aabb}
 use Rattle.section.specs.declared.profile.shapes.CollisionHit.{CollisionHit}
 use Rattle.section.specs.declared.profile.shapes.Witness.{Witness}
+use Rattle.section.specs.declared.segments.shapes.Part.{Part}
 use Rattle.section.proofs.profile.Nearest.{every, none_nearer}
 use Rattle.section.proofs.profile.Numbers.{Held, NumberHit, infinite, nearest_number}
 use Rattle.section.specs.segments.Clip.{clip}
@@ -122,11 +124,11 @@ module _ (s : List Float) (x : Aabb) where
   none_through zero h = refl
   none_through (suc n) h = rw (none_through n (λ k l. h k (omega arith)), h n (omega arith))
 
-  clipped : (k : ℕ) → (clip x (vertex_at s k) (end_at s k)).any ≡ true → (edge_box x (edge_at s k)).distance ≡ 𝟘
+  clipped : (k : ℕ) (c : Part) → clip x (vertex_at s k) (end_at s k) ≡ Some c → (edge_box x (edge_at s k)).distance ≡ 𝟘
   unfolding edge_box
-  clipped k h = rw h
+  clipped k c h = rw h
 
-  not_clipped : (k : ℕ) → (clip x (vertex_at s k) (end_at s k)).any ≡ false → through k ≡ false
+  not_clipped : (k : ℕ) → clip x (vertex_at s k) (end_at s k) ≡ None → through k ≡ false
   unfolding segment_through_interior
   not_clipped k h = rw h
 
@@ -137,13 +139,13 @@ module _ (s : List Float) (x : Aabb) where
       (λ j. edge_held x (edge_at s j)) (count s) k l tt
 
   pub apart : (𝟘 ≺ (box_gap s x).distance) ≡ true → any through (count s) ≡ false
-  apart e = none_through (count s) (λ k l. go k l (clip x (vertex_at s k) (end_at s k)).any refl)
+  apart e = none_through (count s) (λ k l. go k l (clip x (vertex_at s k) (end_at s k)) refl)
     where
-      go : (k : ℕ) → k < count s → (t : Bool) → (clip x (vertex_at s k) (end_at s k)).any ≡ t → through k ≡ false
-      go k l true h =
+      go : (k : ℕ) → k < count s → (o : Option Part) → clip x (vertex_at s k) (end_at s k) ≡ o → through k ≡ false
+      go k l (Some c) h =
           absurd (subst (λ (t : Bool). T (not t)) e
-          (subst (λ (d : Float). T (not (d ≺ (box_gap s x).distance))) (clipped k h) (gap_least k l)))
-      go k l false h = not_clipped k h
+          (subst (λ (d : Float). T (not (d ≺ (box_gap s x).distance))) (clipped k c h) (gap_least k l)))
+      go k l None h = not_clipped k h
 
   -- ---- the distance
   holds_vertex : any inside (count s) ≡ true → box_holds s x ≡ true

@@ -19,9 +19,8 @@ use Rattle.section.specs.declared.profile.shapes.Vertex.{Vertex}
 use Rattle.section.specs.points.Points.{crosses}
 use Rattle.section.specs.probes.Probes.{OddNext}
 use Rattle.section.specs.probes.Radii.{Reaches, Spans, Unparted, Within}
-use Rattle.section.specs.declared.probes.shapes.Odd.{Odd}
 use Rattle.section.specs.declared.probes.shapes.Probes.{Probes}
-use Rattle.section.specs.declared.probes.shapes.Reach.{Reach}
+use Rattle.section.specs.declared.ranges.shapes.Range.{Range}
 
 module _ (lo hi r : Float) (L : Number lo) (H : Number hi) (R : Number r) where
   -- at numbers, the order of keys
@@ -64,7 +63,7 @@ anywhere r = record {
   above = λ x X e. absurd (true→T (sym (inf_not_less x) ∙ e));
 }
 
-pub everywhere : (at : Probes) (t : Float) → t ≡ ∞ → Reaches at (record { lo = neg t; hi = t })
+pub everywhere : (at : Probes Vertex) (t : Float) → t ≡ ∞ → Reaches at (record { lo = neg t; hi = t })
 everywhere at t e =
     subst (λ (x : Float). Reaches at (record { lo = neg x; hi = x })) (sym e)
     (record { centre = anywhere _; c00 = anywhere _; c10 = anywhere _; c11 = anywhere _; c01 = anywhere _ })
@@ -88,7 +87,7 @@ not_crossed : (p a b : Vertex) (odd : Bool) → unlike (p.r ≺ a.r) (p.r ≺ b.
 unfolding crosses
 not_crossed p a b odd e = rw e (kept odd)
 
-module _ (at : Probes) (reach : Reach) (w : Reaches at reach) (odd : Odd) where
+module _ (at : Probes Vertex) (reach : Range) (w : Reaches at reach) (odd : Probes Bool) where
   kept_at : (a b : Vertex) (k : ℕ) → Unparted reach.lo reach.hi a.r b.r
       → OddNext at (record { a = a; b = b; number = k }) odd odd
   kept_at a b k u = record {

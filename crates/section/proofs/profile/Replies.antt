@@ -1,11 +1,21 @@
 -- A number other than 0 is the answer; what is shown of the answer holds of a result that equals it. By cases of the number.
 use Prim.Native.Nat.{ℕ, zero, suc}
 use mathlib.Core.Path.{◌≡◌, refl, ap, sym, subst, ◌∙◌}
+use Rattle.section.specs.declared.shapes.Refusal.{Refusal}
+use Rattle.section.specs.profile.Numbers.{refusal_number}
 use Rattle.section.specs.profile.Replies.{Reply, value, turned_down, reply, mapped, OfValue, Answers}
+use Rattle.section.proofs.profile.Numbered.{above_zero}
 
 pub refused : {A : Type 0} (n : ℕ) (a : A) → (n ≡ 0 → ⊥) → turned_down n ≡ reply n a
 refused zero a k = absurd (k refl)
 refused (suc n) a k = refl
+
+-- a call that is turned down, and one that gives the value
+pub refused_answer : {A : Type 0} (e : Refusal) {n : ℕ} (a : A) → refusal_number e ≡ n → turned_down (refusal_number e) ≡ reply n a
+refused_answer e a h = rw (← h) (refused _ a (above_zero e))
+
+pub value_answer : {A : Type 0} {n : ℕ} {v a : A} → 0 ≡ n → v ≡ a → value v ≡ reply n a
+value_answer h e = rw (← h, e)
 
 pub of_reply : {A : Type 0} (P : A → Type 0) (n : ℕ) (a : A) → (n ≡ 0 → P a) → OfValue P (reply n a)
 of_reply P zero a f = f refl

@@ -1,16 +1,24 @@
--- What a definition's shape keeps: one of two by a test, a repeated step, a search. By induction over the steps.
+-- What a definition's shape keeps: one of two, a repeated step, a search. By induction over the steps.
 use Prim.Native.Nat.{ℕ, zero, suc, ◌<◌}
 use mathlib.Core.Bool.{Bool, true, false, not, ◌||◌, cond}
 use mathlib.Core.Logic.{inl, inr}
-use mathlib.Core.Path.{◌≡◌, subst}
+use mathlib.Core.Path.{◌≡◌, refl, subst}
 use native.Mathlib.Nat.{eq-or-lt_of_le, le_refl}
 use native.Mathlib.Omega.{arith}
 use lib.Dec.{T}
+use Rattle.std.specs.Prelude.{Option, None, Some}
+use Rattle.std.specs.Option.{option_map_or}
 use Rattle.section.specs.profile.Vertices.{upto, any}
 
 pub pick : {A : Type 0} (P : A → Type 0) (b : Bool) {x y : A} → (T b → P x) → (T (not b) → P y) → P (cond b x y)
 pick P true h k = h tt
 pick P false h k = k tt
+
+-- one of two by whether there is a value
+pub pick_some : {A B : Type 0} (P : B → Type 0) (o : Option A) {f : A → B} {y : B} → ((x : A) → o ≡ Some x → P (f x))
+    → (o ≡ None → P y) → P (option_map_or f o y)
+pick_some P (Some x) h k = h x refl
+pick_some P None h k = k refl
 
 -- ---- a repeated step
 pub upto_steps : {A : Type 0} (P : ℕ → A → Type 0) (f : ℕ → A → A) (a : A) (n : ℕ) → P 0 a

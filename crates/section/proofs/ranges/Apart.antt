@@ -17,7 +17,7 @@ use Rattle.arith.proofs.Laws.Sizes.{zero_number}
 use Rattle.section.specs.declared.profile.shapes.Edge.{Edge}
 use Rattle.section.specs.declared.profile.shapes.Vertex.{Vertex}
 use Rattle.section.proofs.profile.Steps.{pick}
-use Rattle.section.specs.segments.Legs.{Hopeless, Reaches}
+use Rattle.section.specs.segments.Hopeless.{Hopeless, Reaches}
 use Rattle.section.specs.segments.Segments.{dot, minus, segments}
 use Rattle.section.proofs.segments.Legs.{not_below_itself, over_not_below, over_zero, reaches_nothing, reaches_size}
 use Rattle.section.specs.ranges.Ranges.{gap_between, Has, range, range_of, sides_range}

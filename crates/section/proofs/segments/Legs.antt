@@ -30,7 +30,7 @@ use Rattle.arith.proofs.Laws.Sizes.{zero_key, zero_number}
 use Rattle.section.specs.profile.Vertices.{hit, nearer}
 use Rattle.section.specs.declared.profile.shapes.CollisionHit.{CollisionHit}
 use Rattle.section.specs.declared.profile.shapes.Witness.{Witness}
-use Rattle.section.specs.segments.Legs.{Hopeless, Reaches}
+use Rattle.section.specs.segments.Hopeless.{Hopeless, Reaches}
 
 abbrev Number : Float → Type 0
 Number x = T (number binary64 x)

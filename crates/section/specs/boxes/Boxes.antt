@@ -1,5 +1,6 @@
 -- 01's clip (Liang-Barsky) and box distance.
-use Rattle.std.specs.Prelude.{ℕ, zero, suc, Bool, ◌&&◌, ◌||◌, cond, List, [], ◌∷◌, Float}
+use Rattle.std.specs.Prelude.{ℕ, zero, suc, Bool, false, ◌&&◌, ◌||◌, cond, List, [], ◌∷◌, Float}
+use Rattle.std.specs.Option.{option_map_or}
 use Rattle.arith.specs.F64.{◌⊕◌, ◌⊖◌, ◌⊗◌, ◌≺◌, 𝟘, ½, ∞, e_9}
 use Rattle.section.specs.profile.Vertices.{vertex, on, hit, count, vertex_at, end_at, edge_at, upto, any, nearest_of}
 use Rattle.section.specs.segments.Segments.{along, segments}
@@ -22,8 +23,7 @@ corners x = x.z0 ∷ x.r0 ∷ x.z1 ∷ x.r0 ∷ x.z1 ∷ x.r1 ∷ x.z0 ∷ x.r1 
 -- a clipped edge has 0, its witness where the clip enters; any other takes the first smallest of the four sides
 unfoldable pub edge_box : Aabb → Edge → CollisionHit
 edge_box x e =
-    let c = clip x e.a e.b in
-    cond c.any (hit 𝟘 (on e.number (along e.a e.b c.t0)))
+    option_map_or (λ c. hit 𝟘 (on e.number (along e.a e.b c.t0))) (clip x e.a e.b)
     (nearest_of (λ k. segments e (vertex_at (corners x) k) (end_at (corners x) k)) (hit ∞ (on e.number e.a)) 4)
 
 -- more than 1e-9 inside every side
@@ -37,8 +37,7 @@ middle a b = vertex ((a.z ⊕ b.z) ⊗ ½) ((a.r ⊕ b.r) ⊗ ½)
 -- the edge's clipped middle lies so
 unfoldable pub segment_through_interior : Aabb → Vertex → Vertex → Bool
 segment_through_interior x a b =
-    let c = clip x a b in
-    c.any && strictly_inside_aabb x (middle (along a b c.t0) (along a b c.t1))
+    option_map_or (λ c. strictly_inside_aabb x (middle (along a b c.t0) (along a b c.t1))) (clip x a b) false
 
 -- centre, (z0,r0), (z1,r0), (z1,r1), (z0,r1)
 abbrev pub probe : Aabb → ℕ → Vertex

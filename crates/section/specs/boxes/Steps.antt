@@ -1,5 +1,5 @@
 -- What functions below the entry points promise each other.
-use Rattle.std.specs.Prelude.{ℕ, Bool, List, ◌≡◌, T, Float}
+use Rattle.std.specs.Prelude.{ℕ, Bool, List, T, Float}
 use Rattle.std.specs.Float.{binary64}
 use Rattle.std.specs.Float.Ieee.{fits}
 use Rattle.arith.specs.F64.{𝟘}
@@ -8,10 +8,8 @@ use Rattle.section.specs.declared.profile.shapes.Aabb.{Aabb}
 use Rattle.section.specs.declared.profile.shapes.CollisionHit.{CollisionHit}
 use Rattle.section.specs.declared.profile.shapes.Edge.{Edge}
 use Rattle.section.specs.declared.profile.shapes.Vertex.{Vertex}
-use Rattle.section.specs.segments.Legs.{Legs}
-use Rattle.section.specs.declared.segments.shapes.Near.{Near}
 use Rattle.section.specs.points.Overlap.{result_of}
-use Rattle.section.specs.ranges.Ranges.{Has, ranges_of, sides_of}
+use Rattle.section.specs.ranges.Ranges.{Has}
 use Rattle.section.specs.ranges.Search.{FoundFrom}
 use Rattle.section.specs.declared.ranges.shapes.Range.{Range}
 use Rattle.section.specs.declared.ranges.shapes.Sides.{Sides}
@@ -36,12 +34,6 @@ pub record HeldBeside (x : Aabb) (e : Edge) : Type 0 where
   pub z1 : T (fits binary64 x.z1)
   pub r0 : T (fits binary64 x.r0)
   pub r1 : T (fits binary64 x.r1)
-
--- what is known on the way along a section: where the box's sides lie, where the edge does, the legs of the best
-pub record Along (x : Aabb) (sides : Sides) (e : Edge) (g : Sides) (best : Near) : Type 0 where
-  pub box_sides : sides ≡ sides_of x
-  pub edge_ranges : g ≡ ranges_of e.a e.b
-  pub legs : Legs best
 
 -- an edge's clipped middle lies well inside
 abbrev pub any_through : List Float → Aabb → Bool

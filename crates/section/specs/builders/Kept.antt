@@ -2,15 +2,8 @@
 use Rattle.std.specs.Prelude.{ℕ, zero, suc, ◌+◌, ◌*◌, List, [], ◌∷◌, ◌++◌, length, ltb, Float}
 use Rattle.section.specs.profile.Vertices.{count}
 use Rattle.section.specs.profile.Refusals.{Test, ◌when◌, refusal, fewer, list_tests, axis_tests}
-use Rattle.section.specs.profile.Replies.{Reply, value, turned_down, reply}
+use Rattle.section.specs.profile.Replies.{Reply, reply}
 use Rattle.section.specs.builders.Builder.{section_of, polygon_of}
-use Rattle.section.specs.declared.builders.shapes.Kept.{Kept}
-use Rattle.section.specs.declared.builders.shapes.Kept.TheVariants.{Numbers, Refused}
-
--- what each case stands for
-abbrev pub told : Kept → Reply ℕ
-told (Numbers n) = value n
-told (Refused n) = turned_down n
 
 -- a radius below -1e-9, room for two points more, three kept
 abbrev pub section_own : List Float → List Float → List Test

@@ -1,14 +1,13 @@
 -- What the functions below the entry points compute on the way to the builders.
-use Rattle.std.specs.Prelude.{ℕ, ◌+◌, ◌*◌, Bool, ◌&&◌, cond, List, ◌≡◌, set, take, ltb, Float}
+use Rattle.std.specs.Prelude.{ℕ, ◌+◌, ◌*◌, Bool, ◌&&◌, cond, List, ◌≡◌, set, take, ltb, Float, Result, Ok, Err}
 use Rattle.arith.specs.F64.{𝟘}
 use Rattle.section.specs.profile.Vertices.{vertex, count, vertex_at}
 use Rattle.section.specs.declared.profile.shapes.Vertex.{Vertex}
-use Rattle.section.specs.profile.Replies.{Reply}
+use Rattle.section.specs.profile.Replies.{Reply, told}
 use Rattle.section.specs.builders.Builder.{same_point, last_of, raised, filled}
-use Rattle.section.specs.builders.Kept.{told}
 use Rattle.section.specs.declared.builders.builder.Run.{Run}
-use Rattle.section.specs.declared.builders.shapes.Kept.{Kept}
-use Rattle.section.specs.declared.builders.shapes.Kept.TheVariants.{Numbers, Refused}
+use Rattle.section.specs.declared.shapes.Refusal.{Refusal}
+use Rattle.section.specs.declared.shapes.Refusal.TheVariants.{TooFewKept}
 
 -- a builder's point k, its radius raised to 0
 abbrev pub point_at : List Float → ℕ → Vertex
@@ -40,15 +39,10 @@ abbrev pub front_kept : ℕ → List Float → List Float → List Float
 front_kept limit kept space = filled (take (limit * 2) kept) space
 
 -- number 8, or how many numbers are kept
-unfoldable pub three_kept : ℕ → Kept
-three_kept vertices = cond (ltb vertices 3) (Refused 8) (Numbers (vertices * 2))
+unfoldable pub three_kept : ℕ → Result ℕ Refusal
+three_kept vertices = cond (ltb vertices 3) (Err TooFewKept) (Ok (vertices * 2))
 
 -- what a builder promises: its answer, and the space as it leaves it
-pub record Builds (answer : Reply ℕ) (kept space : List Float) (r : Kept) (after : List Float) : Type 0 where
+pub record Builds (answer : Reply ℕ) (kept space : List Float) (r : Result ℕ Refusal) (after : List Float) : Type 0 where
   pub equal : told r ≡ answer
   pub space_after : after ≡ filled kept space
-
--- how many numbers are handed back
-abbrev pub numbers_of : Kept → ℕ
-numbers_of (Numbers n) = n
-numbers_of (Refused n) = 0

@@ -3,8 +3,9 @@ use Rattle.std.specs.Prelude.{true, false, ◌≡◌, T, Float}
 use Rattle.std.specs.Float.{binary64}
 use Rattle.std.specs.Float.Ieee.{fits, unlike}
 use Rattle.arith.specs.F64.{◌≺◌, ◌≼◌}
+use Rattle.section.specs.declared.profile.shapes.Vertex.{Vertex}
 use Rattle.section.specs.declared.probes.shapes.Probes.{Probes}
-use Rattle.section.specs.declared.probes.shapes.Reach.{Reach}
+use Rattle.section.specs.declared.ranges.shapes.Range.{Range}
 
 -- r lies from lo to hi: of the values of f64, what is at most lo is not above it, and what is above hi is
 pub record Within (lo hi r : Float) : Type 0 where
@@ -18,7 +19,7 @@ pub record Spans (lo r hi : Float) : Type 0 where
   pub high : Within lo hi hi
 
 -- every probe's radius lies in reach
-pub record Reaches (at : Probes) (reach : Reach) : Type 0 where
+pub record Reaches (at : Probes Vertex) (reach : Range) : Type 0 where
   pub centre : Within reach.lo reach.hi at.centre.r
   pub c00 : Within reach.lo reach.hi at.c00.r
   pub c10 : Within reach.lo reach.hi at.c10.r

@@ -1,10 +1,16 @@
--- What a call answers: a value, or the number under which it is turned down. Each enum of answers says which of the two each of its
--- cases stands for.
-use Rattle.std.specs.Prelude.{ℕ, zero, suc, ◌≡◌}
+-- What a call answers: a value, or the number under which it is turned down.
+use Rattle.std.specs.Prelude.{ℕ, zero, suc, ◌≡◌, Result, Ok, Err}
+use Rattle.section.specs.declared.shapes.Refusal.{Refusal}
+use Rattle.section.specs.profile.Numbers.{refusal_number}
 
 pub data Reply (A : Type 0) : Type 0 where
   value : A → Reply A
   turned_down : ℕ → Reply A
+
+-- what a result stands for
+abbrev pub told : {A : Type 0} → Result A Refusal → Reply A
+told (Ok a) = value a
+told (Err e) = turned_down (refusal_number e)
 
 -- the number if there is one, and otherwise the value
 abbrev pub reply : {A : Type 0} → ℕ → A → Reply A

@@ -6,7 +6,7 @@ use Rattle.std.specs.Float.Ieee.{fits, neg}
 use Rattle.arith.specs.F64.{∞}
 use Rattle.section.specs.profile.Vertices.{count, end_at, upto, vertex_at}
 use Rattle.section.specs.declared.profile.shapes.Vertex.{Vertex}
-use Rattle.section.specs.segments.Legs.{Hopeless}
+use Rattle.section.specs.segments.Hopeless.{Hopeless}
 use Rattle.section.specs.ranges.Ranges.{gap_between, joined, range, range_of}
 use Rattle.section.specs.declared.ranges.shapes.Sides.{Sides}
 

@@ -1,28 +1,14 @@
 -- A hit with its legs, as what functions below the entry points promise each other; no answer is defined by it.
-use Rattle.std.specs.Prelude.{false, ◌≡◌, T, Float}
-use Rattle.std.specs.Float.{binary64}
-use Rattle.std.specs.Float.Ieee.{fits}
-use Rattle.arith.specs.F64.{◌≺◌}
-use Rattle.arith.specs.Num.{abs}
-use Rattle.arith.specs.roots.Roots.{hypot}
+use Rattle.std.specs.Prelude.{◌≡◌}
 use Rattle.section.specs.profile.Vertices.{nearer}
 use Rattle.section.specs.declared.profile.shapes.CollisionHit.{CollisionHit}
+use Rattle.section.specs.segments.Hopeless.{Hopeless}
 use Rattle.section.specs.declared.segments.shapes.Near.{Near}
-
--- x is at least so long, or a NaN
-abbrev pub Reaches : Float → Float → Type 0
-Reaches least x = (abs x ≺ least) ≡ false
-
--- no legs at least as long as z and r have a hypot below this
-abbrev pub Hopeless : Float → Float → Float → Type 0
-Hopeless z r least =
-    (x y : Float) → T (fits binary64 x) → T (fits binary64 y) → Reaches z x → Reaches r y → (hypot binary64 x y ≺ least) ≡ false
 
 -- what its legs say of its distance
 abbrev pub Legs : Near → Type 0
 Legs n = Hopeless n.z n.r n.hit.distance
 
--- r is the nearer of best and new, with its legs
-pub record Nearest (best : Near) (new : CollisionHit) (r : Near) : Type 0 where
-  pub hit : r.hit ≡ nearer best.hit new
-  pub legs : Legs r
+-- r is the nearer of best and new
+abbrev pub Nearest : Near → CollisionHit → Near → Type 0
+Nearest best new r = r.hit ≡ nearer best.hit new

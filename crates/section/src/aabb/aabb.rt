@@ -8,15 +8,15 @@ ghost use Rattle.section.specs.boxes.Steps.{any_through, box_apart};
 
 use crate::boxes::box_gap;
 use crate::probes::{Probes, deeper_probe, none_inside, odd_probes};
-use crate::profile::{Aabb, CollisionHit, Vertex, Witness, end_at, nearer_of, on, vertex_at};
+use crate::profile::{Aabb, CollisionHit, Vertex, Witness, any_edge, nearer_of, on, vertex_at};
 use crate::segments::{INTERIOR, clip_segment, lerp};
 use crate::signed::result_of;
 
+#[tactic(auto, unfolding(crate::specs::boxes::Boxes::strictly_inside_aabb))]
 pub fn strictly_inside_aabb(v: Vertex, x: Aabb) -> bool
     ensures { result ≡ strictly_inside_aabb x v }
 {
-    v.z > x.z0 + INTERIOR
-        && (v.z < x.z1 - INTERIOR && (v.r > x.r0 + INTERIOR && v.r < x.r1 - INTERIOR))
+    v.z > x.z0 + INTERIOR && v.z < x.z1 - INTERIOR && v.r > x.r0 + INTERIOR && v.r < x.r1 - INTERIOR
 }
 
 fn middle_of(a: Vertex, b: Vertex) -> Vertex
@@ -28,15 +28,12 @@ fn middle_of(a: Vertex, b: Vertex) -> Vertex
     }
 }
 
+#[tactic(auto, unfolding(crate::specs::boxes::Boxes::segment_through_interior))]
 pub fn segment_through_interior(a: Vertex, b: Vertex, x: Aabb) -> bool
     ensures { result ≡ segment_through_interior x a b }
 {
-    let c = clip_segment(a, b, x);
-    let any = c.any;
-    let t0 = c.t0;
-    let t1 = c.t1;
-    if any {
-        return strictly_inside_aabb(middle_of(lerp(a, b, t0), lerp(a, b, t1)), x);
+    if let Some(c) = clip_segment(a, b, x) {
+        return strictly_inside_aabb(middle_of(lerp(a, b, c.t0), lerp(a, b, c.t1)), x);
     }
     false
 }
@@ -90,54 +87,22 @@ fn box_witness(s: &[f64], x: Aabb, witness: Witness) -> Witness
 {
     let n = s.len() / 2;
     let mut at = witness;
-    let mut k = 0;
-    while k < n {
+    for k in 0..n {
         at = witness_at(s, x, k, at);
-        k += 1;
     }
     at
-}
-
-fn vertex_inside(s: &[f64], x: Aabb, k: usize) -> bool
-    requires { k < count s.now }
-    ensures { result ≡ strictly_inside_aabb x (vertex_at s.now k) }
-{
-    strictly_inside_aabb(vertex_at(s, k), x)
 }
 
 fn any_vertex_inside(s: &[f64], x: Aabb) -> bool
     ensures { result ≡ any (λ k. strictly_inside_aabb x (vertex_at s.now k)) (count s.now) }
 {
-    let n = s.len() / 2;
-    let mut k = 0;
-    while k < n {
-        if vertex_inside(s, x, k) {
-            return true;
-        }
-        k += 1;
-    }
-    false
-}
-
-fn edge_through(s: &[f64], x: Aabb, k: usize) -> bool
-    requires { k < count s.now }
-    ensures { result ≡ segment_through_interior x (vertex_at s.now k) (end_at s.now k) }
-{
-    segment_through_interior(vertex_at(s, k), end_at(s, k), x)
+    any_edge(s, |a, _| strictly_inside_aabb(a, x))
 }
 
 fn any_edge_through(s: &[f64], x: Aabb) -> bool
     ensures { result ≡ any_through s.now x }
 {
-    let n = s.len() / 2;
-    let mut k = 0;
-    while k < n {
-        if edge_through(s, x, k) {
-            return true;
-        }
-        k += 1;
-    }
-    false
+    any_edge(s, |a, b| segment_through_interior(a, b, x))
 }
 
 // Where the gap is above 0 no edge is clipped.
@@ -152,7 +117,7 @@ fn runs_through(s: &[f64], x: Aabb, gap: f64) -> bool
 }
 
 // No vertex lies well inside, and no probe is deep: the gap tells, or an edge that runs through.
-fn box_apart(s: &[f64], x: Aabb, hint: usize, deep: CollisionHit) -> CollisionHit
+fn box_apart(s: &[f64], x: Aabb, hint: Option<usize>, deep: CollisionHit) -> CollisionHit
     requires { 3 ≤ count s.now }
     ensures { result ≡ box_apart s.now x deep }
 {
@@ -173,7 +138,7 @@ fn box_apart(s: &[f64], x: Aabb, hint: usize, deep: CollisionHit) -> CollisionHi
 
 // With a vertex well inside, or a probe deeper than 1e-9, the gap is not read. The hint, an edge that is likely
 // the nearest, appears in no answer.
-pub fn box_distance_near(s: &[f64], x: Aabb, hint: usize) -> CollisionHit
+pub fn box_distance_near(s: &[f64], x: Aabb, hint: Option<usize>) -> CollisionHit
     requires { 3 ≤ count s.now }
     ensures { result ≡ box_distance s.now x }
 {
@@ -195,7 +160,5 @@ pub fn box_distance(s: &[f64], x: Aabb) -> CollisionHit
     requires { 3 ≤ count s.now }
     ensures { result ≡ box_distance s.now x }
 {
-    // no edge has that number: no hint
-    let n = s.len();
-    box_distance_near(s, x, n)
+    box_distance_near(s, x, None)
 }

@@ -4,12 +4,13 @@ ghost use Rattle.std.specs.Prelude.{◌≡◌, true, false, ◌<◌, ◌≤◌};
 ghost use Rattle.arith.specs.F64.{◌≺◌, 𝟘};
 ghost use Rattle.section.specs.profile.Vertices as profile;
 ghost use Rattle.section.specs.profile.Vertices.{count, vertex_at, end_at, edge_at, nearer, nearest_of};
-ghost use Rattle.section.specs.segments.Legs.{Legs, Nearest};
+ghost use Rattle.section.specs.segments.Legs.{Nearest};
 ghost use Rattle.section.specs.segments.Segments.{along, segments};
-ghost use Rattle.section.specs.ranges.Ranges.{gap_between, range_of, sides_of};
+ghost use Rattle.section.specs.ranges.Ranges.{gap_between, range_of, ranges_of, sides_of};
 ghost use Rattle.section.specs.boxes.Boxes.{corners, edge_box, box_gap};
-ghost use Rattle.section.specs.boxes.Steps.{Along, GapFrom, HeldBeside, Ranged};
+ghost use Rattle.section.specs.boxes.Steps.{GapFrom, HeldBeside, Ranged};
 
+use super::shapes::SidedBox;
 use crate::profile::{Aabb, CollisionHit, Edge, Vertex, edge_at, on, vertex_at};
 use crate::ranges::{
     Range, Sides, gap_between, likely_edge_or, misses_along, misses_box, range_of, ranges_of,
@@ -21,7 +22,7 @@ use crate::segments::{
 
 // The box's side from c to d may be nearer to the edge. The edge lies in g, the side in hz and hr.
 fn nearer_side(edge: Edge, g: Sides, c: Vertex, d: Vertex, hz: Range, hr: Range, best: Near) -> Near
-    requires { Ranged edge g c d hz hr × Legs best }
+    requires { Ranged edge g c d hz hr }
     ensures { Nearest best (segments edge c d) result }
 {
     let z = gap_between(g.z, hz);
@@ -33,10 +34,11 @@ fn nearer_side(edge: Edge, g: Sides, c: Vertex, d: Vertex, hz: Range, hr: Range,
 }
 
 // A side of the box may be nearer to the edge.
-fn nearest_side(edge: Edge, x: Aabb, sides: Sides, g: Sides, best: Near) -> Near
-    requires { Along x sides edge g best × HeldBeside x edge }
-    ensures { (result.hit ≡ nearest_of (λ k. segments edge (vertex_at (corners x) k) (end_at (corners x) k)) best.hit 4) × Legs result }
+fn nearest_side(edge: Edge, sided: SidedBox, g: Sides, best: Near) -> Near
+    requires { (g ≡ ranges_of edge.a edge.b) × HeldBeside sided.aabb edge }
+    ensures { result.hit ≡ nearest_of (λ k. segments edge (vertex_at (corners sided.aabb) k) (end_at (corners sided.aabb) k)) best.hit 4 }
 {
+    let x = sided.aabb;
     let c00 = Vertex { z: x.z0, r: x.r0 };
     let c10 = Vertex { z: x.z1, r: x.r0 };
     let c11 = Vertex { z: x.z1, r: x.r1 };
@@ -45,8 +47,8 @@ fn nearest_side(edge: Edge, x: Aabb, sides: Sides, g: Sides, best: Near) -> Near
     let last = Range { lo: x.z1, hi: x.z1 };
     let high = Range { lo: x.r1, hi: x.r1 };
     let start = Range { lo: x.z0, hi: x.z0 };
-    let along_z = sides.z;
-    let along_r = sides.r;
+    let along_z = sided.sides.z;
+    let along_r = sided.sides.r;
     let first = nearer_side(edge, g, c00, c10, along_z, low, best);
     let second = nearer_side(edge, g, c10, c11, last, along_r, first);
     let third = nearer_side(edge, g, c11, c01, along_z, high, second);
@@ -55,7 +57,7 @@ fn nearest_side(edge: Edge, x: Aabb, sides: Sides, g: Sides, best: Near) -> Near
 
 // The box holds the edge from t on.
 fn entered(edge: Edge, t: f64) -> Near
-    ensures { (result.hit ≡ profile.hit 𝟘 (profile.on edge.number (along edge.a edge.b t))) × Legs result }
+    ensures { result.hit ≡ profile.hit 𝟘 (profile.on edge.number (along edge.a edge.b t)) }
 {
     legless(CollisionHit {
         distance: 0.0,
@@ -64,17 +66,14 @@ fn entered(edge: Edge, t: f64) -> Near
 }
 
 // The edge may be nearer to the box.
-fn segment_aabb_distance(edge: Edge, x: Aabb, sides: Sides, g: Sides, best: Near) -> Near
-    requires { Along x sides edge g best }
-    ensures { Nearest best (edge_box x edge) result }
+fn segment_aabb_distance(edge: Edge, x: SidedBox, g: Sides, best: Near) -> Near
+    requires { g ≡ ranges_of edge.a edge.b }
+    ensures { Nearest best (edge_box x.aabb edge) result }
 {
-    let c = clip_segment(edge.a, edge.b, x);
-    let any = c.any;
-    let t0 = c.t0;
-    if any {
-        return nearer_near(best, entered(edge, t0));
+    if let Some(c) = clip_segment(edge.a, edge.b, x.aabb) {
+        return nearer_near(best, entered(edge, c.t0));
     }
-    nearest_side(edge, x, sides, g, best)
+    nearest_side(edge, x, g, best)
 }
 
 // The edge is not nearer than the best, as z alone tells of most edges: it lies this far from the box along z, and one of
@@ -92,95 +91,90 @@ fn passed_along_z(edge: Edge, x: Aabb, z: f64, best: Near) -> bool
 }
 
 // The same, as both axes tell.
-fn passed_over(edge: Edge, x: Aabb, sides: Sides, best: Near) -> bool
-    requires { (sides ≡ sides_of x) × Legs best }
-    ensures { result ≡ true → ((edge_box x edge).distance ≺ best.hit.distance) ≡ false }
+fn passed_over(edge: Edge, x: SidedBox, best: Near) -> bool
+    ensures { result ≡ true → ((edge_box x.aabb edge).distance ≺ best.hit.distance) ≡ false }
 {
     let a = edge.a;
     let b = edge.b;
-    let z = gap_between(range_of(a.z, b.z), sides.z);
-    if passed_along_z(edge, x, z, best) {
+    let z = gap_between(range_of(a.z, b.z), x.sides.z);
+    if passed_along_z(edge, x.aabb, z, best) {
         return true;
     }
-    let r = gap_between(range_of(a.r, b.r), sides.r);
+    let r = gap_between(range_of(a.r, b.r), x.sides.r);
     if hopeless(z, r, best) {
-        return misses_box(a, b, x);
+        return misses_box(a, b, x.aabb);
     }
     false
 }
 
 // Edge k may be nearer to the box.
-fn gap_at(s: &[f64], x: Aabb, sides: Sides, k: usize, best: Near) -> Near
-    requires { (k < count s.now) × (sides ≡ sides_of x) × Legs best }
-    ensures { Nearest best (edge_box x (edge_at s.now k)) result }
+fn gap_at(s: &[f64], x: SidedBox, k: usize, best: Near) -> Near
+    requires { k < count s.now }
+    ensures { Nearest best (edge_box x.aabb (edge_at s.now k)) result }
 {
     let edge = edge_at(s, k);
     let g = ranges_of(edge.a, edge.b);
-    segment_aabb_distance(edge, x, sides, g, best)
+    segment_aabb_distance(edge, x, g, best)
 }
 
 // Edges from this one up to that one may be nearer to the box. The best stays where it is while edges are passed over.
-fn gap_from(s: &[f64], x: Aabb, sides: Sides, from: usize, to: usize, start: Near) -> Near
-    requires { (from ≤ to) × (to ≤ count s.now) × (sides ≡ sides_of x) × Legs start }
-    ensures { GapFrom s.now x from to start.hit result.hit × Legs result }
+fn gap_from(s: &[f64], x: SidedBox, from: usize, to: usize, start: Near) -> Near
+    requires { (from ≤ to) × (to ≤ count s.now) }
+    ensures { GapFrom s.now x.aabb from to start.hit result.hit }
 {
     let mut best = start;
-    let mut k = from;
-    while k < to {
-        if passed_over(edge_at(s, k), x, sides, best) {
-            k += 1;
-        } else {
-            best = gap_at(s, x, sides, k, best);
-            k += 1;
+    for k in from..to {
+        if passed_over(edge_at(s, k), x, best) {
+            continue;
         }
+        best = gap_at(s, x, k, best);
     }
     best
 }
 
 // Edges up to this one may be nearer to the box. Edge 0 is often tried first, and has none before it.
-fn gap_before(s: &[f64], x: Aabb, sides: Sides, k: usize, start: Near) -> Near
-    requires { (k ≤ count s.now) × (sides ≡ sides_of x) × Legs start }
-    ensures { GapFrom s.now x 0 k start.hit result.hit × Legs result }
+fn gap_before(s: &[f64], x: SidedBox, k: usize, start: Near) -> Near
+    requires { k ≤ count s.now }
+    ensures { GapFrom s.now x.aabb 0 k start.hit result.hit }
 {
     if k > 0 {
-        return gap_from(s, x, sides, 0, k, start);
+        return gap_from(s, x, 0, k, start);
     }
     start
 }
 
 // The edge that is tried first: nothing is known yet, so that it is not asked whether it may be passed over. Measured here
 // and not by a call, which would be 4 % of a box beside 4 vertices.
-fn first_gap(edge: Edge, x: Aabb, sides: Sides, none: CollisionHit) -> Near
-    requires { sides ≡ sides_of x }
-    ensures { (result.hit ≡ nearer none (edge_box x edge)) × Legs result }
+fn first_gap(edge: Edge, x: SidedBox, none: CollisionHit) -> Near
+    ensures { result.hit ≡ nearer none (edge_box x.aabb edge) }
 {
     let g = ranges_of(edge.a, edge.b);
     let best = legless(none);
-    let c = clip_segment(edge.a, edge.b, x);
-    let any = c.any;
-    let t0 = c.t0;
-    if any {
-        return nearer_near(best, entered(edge, t0));
+    if let Some(c) = clip_segment(edge.a, edge.b, x.aabb) {
+        return nearer_near(best, entered(edge, c.t0));
     }
-    nearest_side(edge, x, sides, g, best)
+    nearest_side(edge, x, g, best)
 }
 
-pub fn box_gap(s: &[f64], x: Aabb, hint: usize) -> CollisionHit
+pub fn box_gap(s: &[f64], x: Aabb, hint: Option<usize>) -> CollisionHit
     requires { 3 ≤ count s.now }
     ensures { result ≡ box_gap s.now x }
 {
     let n = s.len() / 2;
-    let sides = sides_of(x);
+    let sided = SidedBox {
+        aabb: x,
+        sides: sides_of(x),
+    };
     let none = CollisionHit {
         distance: arith::infinity(),
         witness: on(0, vertex_at(s, 0)),
     };
     let k = likely_edge_or(s, x, hint);
     let after = k + 1;
-    let first = first_gap(edge_at(s, k), x, sides, none);
+    let first = first_gap(edge_at(s, k), sided, none);
     let start = start_over(first.hit, none);
-    let before = gap_before(s, x, sides, k, legless(start));
+    let before = gap_before(s, sided, k, legless(start));
     let best = nearer_near(before, first);
-    let last = gap_from(s, x, sides, after, n, best);
+    let last = gap_from(s, sided, after, n, best);
     last.hit
 }

@@ -3,14 +3,16 @@
 ghost use Rattle.std.specs.Prelude.{◌≡◌, ◌+◌, ◌*◌, ◌<◌, ◌≤◌, length};
 ghost use Rattle.section.specs.profile.Vertices.{count};
 ghost use Rattle.section.specs.builders.Builder as builder;
-ghost use Rattle.section.specs.builders.Kept.{told, section_answer, polygon_answer, section_kept, polygon_kept};
-ghost use Rattle.section.specs.builders.Steps.{is_repeat, pushed, pushed_space, written, point_at, run_of, front_kept, three_kept, numbers_of, Builds};
+ghost use Rattle.section.specs.profile.Replies.{told};
+ghost use Rattle.section.specs.builders.Kept.{section_answer, polygon_answer, section_kept, polygon_kept};
+ghost use Rattle.section.specs.builders.Steps.{is_repeat, pushed, pushed_space, written, point_at, run_of, front_kept, three_kept, Builds};
 
-use super::shapes::Kept;
+use crate::Refusal;
 use crate::profile::{Vertex, vertex_at};
 use crate::refusals::{any_below_axis, list_refusal};
 
-// The last vertex that is kept, (0, 0) while there is none, and how many are.
+// The last vertex that is kept, (0, 0) while there is none, and how many are. The count says whether there is a last:
+// an Option of it would have to be unwrapped at each closing.
 #[derive(Clone, Copy)]
 pub struct Run {
     pub last: Vertex,
@@ -81,10 +83,8 @@ fn push_points(points: &[f64], space: &mut [f64], limit: usize) -> Run
         last: Vertex { z: 0.0, r: 0.0 },
         count: 0,
     };
-    let mut k = 0;
-    while k < n {
+    for k in 0..n {
         run = push_dedup(space, limit, run, point_at(points, k));
-        k += 1;
     }
     run
 }
@@ -126,105 +126,80 @@ fn push_polygon(points: &[f64], space: &mut [f64], limit: usize) -> usize
     n
 }
 
-// Number 8 where fewer than 3 vertices are kept.
-fn three_kept(vertices: usize) -> Kept
+// At least 3 vertices are to be kept.
+fn three_kept(vertices: usize) -> Result<usize, Refusal>
     requires { vertices ≤ 256 }
     ensures { result ≡ three_kept vertices }
 {
     if vertices < 3 {
-        return Kept::Refused(8);
+        return Err(Refusal::TooFewKept);
     }
-    Kept::Numbers(vertices * 2)
+    Ok(vertices * 2)
 }
 
-// What write_section answers; nothing is written.
-pub fn check_section(points: &[f64], space: &[f64]) -> Kept
+// What write_section answers, how many numbers are kept; nothing is written.
+pub fn check_section(points: &[f64], space: &[f64]) -> Result<usize, Refusal>
     ensures { told result ≡ section_answer points.now space.now }
 {
-    let number = list_refusal(points, 2, 254);
-    if number != 0 {
-        return Kept::Refused(number);
-    }
+    list_refusal(points, 2, 254)?;
     if any_below_axis(points) {
-        return Kept::Refused(6);
+        return Err(Refusal::RadiusBelowAxis);
     }
     let n = points.len() / 2;
     if space.len() < n * 2 + 4 {
-        return Kept::Refused(7);
+        return Err(Refusal::SpaceTooSmall);
     }
     let mut none = [0.0; 1];
     three_kept(push_section(points, &mut none[..], 0))
 }
 
 // What write_polygon answers; nothing is written.
-pub fn check_polygon(points: &[f64], space: &[f64]) -> Kept
+pub fn check_polygon(points: &[f64], space: &[f64]) -> Result<usize, Refusal>
     ensures { told result ≡ polygon_answer points.now space.now }
 {
-    let number = list_refusal(points, 3, 256);
-    if number != 0 {
-        return Kept::Refused(number);
-    }
+    list_refusal(points, 3, 256)?;
     if any_below_axis(points) {
-        return Kept::Refused(6);
+        return Err(Refusal::RadiusBelowAxis);
     }
     let n = points.len() / 2;
     if space.len() < n * 2 {
-        return Kept::Refused(7);
+        return Err(Refusal::SpaceTooSmall);
     }
     let mut none = [0.0; 1];
     three_kept(push_polygon(points, &mut none[..], 0))
 }
 
-// Writes the kept points to the front of the space; what is turned down leaves the space as it was.
-pub fn write_section(points: &[f64], space: &mut [f64]) -> Kept
+// Writes the kept points to the front of the space, and says how many numbers they have; what is turned
+// down leaves the space as it was.
+pub fn write_section(points: &[f64], space: &mut [f64]) -> Result<usize, Refusal>
     ensures { let s = points.now in let free = space.old in
         Builds (section_answer s free) (section_kept s free) free result space.new }
 {
-    let answer = check_section(points, &space[..]);
-    match answer {
-        Kept::Refused(_) => answer,
-        Kept::Numbers(numbers) => {
-            push_section(points, space, numbers / 2);
-            answer
-        }
-    }
+    let numbers = check_section(points, &space[..])?;
+    push_section(points, space, numbers / 2);
+    Ok(numbers)
 }
 
-pub fn write_polygon(points: &[f64], space: &mut [f64]) -> Kept
+pub fn write_polygon(points: &[f64], space: &mut [f64]) -> Result<usize, Refusal>
     ensures { let s = points.now in let free = space.old in
         Builds (polygon_answer s free) (polygon_kept s free) free result space.new }
 {
-    let answer = check_polygon(points, &space[..]);
-    match answer {
-        Kept::Refused(_) => answer,
-        Kept::Numbers(numbers) => {
-            push_polygon(points, space, numbers / 2);
-            answer
-        }
-    }
-}
-
-// How many numbers are handed back: none where it is turned down.
-fn handed_back(answer: Kept) -> usize
-    ensures { result ≡ numbers_of answer }
-{
-    match answer {
-        Kept::Numbers(numbers) => numbers,
-        Kept::Refused(_) => 0,
-    }
+    let numbers = check_polygon(points, &space[..])?;
+    push_polygon(points, space, numbers / 2);
+    Ok(numbers)
 }
 
 // The written front of the space, from its first place on; empty where it is turned down.
 pub fn try_from_section<'a, 'b>(points: &'b [f64], space: &'a mut [f64]) -> &'a mut [f64]
     ensures { (result.now ≡ section_kept points.now space.old) × (result.ref_ptr ≡ space.entry.ref_ptr) }
 {
-    let numbers = handed_back(write_section(points, space));
+    let numbers = write_section(points, space).unwrap_or(0);
     &mut space[..numbers]
 }
 
 pub fn try_from_polygon<'a, 'b>(points: &'b [f64], space: &'a mut [f64]) -> &'a mut [f64]
     ensures { (result.now ≡ polygon_kept points.now space.old) × (result.ref_ptr ≡ space.entry.ref_ptr) }
 {
-    let count = handed_back(write_polygon(points, space));
+    let count = write_polygon(points, space).unwrap_or(0);
     &mut space[..count]
 }

@@ -35,15 +35,13 @@ fn share_a_sign(c: &[f64], p: Vertex) -> bool
     let n = c.len() / 2;
     let mut left = false;
     let mut right = false;
-    let mut k = 0;
-    while k < n {
+    for k in 0..n {
         let cross = orient_at(c, p, k);
         left = left | (cross > 1e-9);
         right = right | (cross < -1e-9);
         if left & right {
             return false;
         }
-        k += 1;
     }
     true
 }
@@ -91,10 +89,8 @@ fn convex_near(c: &[f64], p: Vertex) -> f64
 {
     let n = c.len() / 2;
     let mut best = arith::infinity();
-    let mut k = 0;
-    while k < n {
+    for k in 0..n {
         best = closer_edge(c, p, k, best);
-        k += 1;
     }
     best
 }
@@ -131,10 +127,8 @@ fn deepest_corner(c: &[f64], s: &[f64], witness: Witness) -> CollisionHit
         distance: 0.0,
         witness: witness,
     };
-    let mut i = 0;
-    while i < n {
+    for i in 0..n {
         best = deeper_corner(c, s, i, best);
-        i += 1;
     }
     best
 }
@@ -171,10 +165,8 @@ fn convex_penetration(c: &[f64], s: &[f64], witness: Witness) -> CollisionHit
 {
     let m = s.len() / 2;
     let mut best = deepest_corner(c, s, witness);
-    let mut j = 0;
-    while j < m {
+    for j in 0..m {
         best = deeper_vertex(c, s, j, best);
-        j += 1;
     }
     best
 }
@@ -194,7 +186,8 @@ fn crosses_edge(s: &[f64], j: usize, a: Vertex, b: Vertex, across: f64) -> bool
     proper_cross(a, b, vertex_at(s, j), end_at(s, j), across)
 }
 
-// The search stops at the first proper crossing. Where an edge of the section ends the next one starts.
+// The search stops at the first proper crossing: two nested loops, left by a label, as 01 names it. Where an edge of
+// the section ends the next one starts.
 fn any_cross(c: &[f64], s: &[f64]) -> bool
     requires { 3 ≤ count s.now }
     ensures { result ≡ any_cross c.now s.now }
@@ -202,22 +195,18 @@ fn any_cross(c: &[f64], s: &[f64]) -> bool
     let n = c.len() / 2;
     let m = s.len() / 2;
     let mut found = false;
-    let mut i = 0;
-    'search: while i < n {
+    'search: for i in 0..n {
         let a = vertex_at(c, i);
         let b = end_at(c, i);
         let mut side = orient(a, b, vertex_at(s, 0));
-        let mut j = 0;
-        while j < m {
+        for j in 0..m {
             let next = orient(a, b, end_at(s, j));
             if crosses_edge(s, j, a, b, side * next) {
                 found = true;
                 break 'search;
             }
             side = next;
-            j += 1;
         }
-        i += 1;
     }
     found
 }

@@ -49,10 +49,8 @@ fn convex_row(
     let b = end_at(c, i);
     let sides = ranges_of(a, b);
     let mut best = start;
-    let mut j = from;
-    while j < to {
+    for j in from..to {
         best = nearer_edge(s, j, a, b, sides, best);
-        j += 1;
     }
     best
 }
@@ -63,10 +61,8 @@ fn convex_rows(c: &[f64], s: &[f64], from: usize, to: usize, start: CollisionHit
 {
     let n = c.len() / 2;
     let mut best = start;
-    let mut i = 0;
-    while i < n {
+    for i in 0..n {
         best = convex_row(c, s, i, from, to, best);
-        i += 1;
     }
     best
 }
@@ -83,15 +79,12 @@ fn near_from(s: &[f64], hull: Sides, least: f64) -> usize
     ensures { FarBefore s.now hull least result }
 {
     let m = s.len() / 2;
-    let mut j = 0;
-    while j < m {
-        if far_at(s, j, hull, least) {
-            j += 1;
-        } else {
+    for j in 0..m {
+        if !far_at(s, j, hull, least) {
             return j;
         }
     }
-    j
+    m
 }
 
 // The last such edge, and one more.
@@ -99,16 +92,13 @@ fn near_to(s: &[f64], hull: Sides, least: f64, from: usize) -> usize
     requires { from ≤ count s.now }
     ensures { FarAfter s.now hull least from result }
 {
-    let mut j = s.len() / 2;
-    while from < j {
-        let k = j - 1;
-        if far_at(s, k, hull, least) {
-            j = k;
-        } else {
-            return j;
+    let m = s.len() / 2;
+    for j in (from..m).rev() {
+        if !far_at(s, j, hull, least) {
+            return j + 1;
         }
     }
-    j
+    from
 }
 
 // A pair that is likely near.

@@ -4,7 +4,6 @@
 ghost use Rattle.std.specs.Prelude.{◌≡◌, true, false, cond, ◌<◌, ◌≤◌};
 ghost use Rattle.arith.specs.F64.{◌≺◌};
 ghost use Rattle.section.specs.profile.Vertices.{count, nearer, upto, vertex};
-ghost use Rattle.section.specs.segments.Legs.{Legs};
 ghost use Rattle.section.specs.segments.Segments.{apart, closest, closest_point};
 ghost use Rattle.section.specs.points.Points.{edge_is_surface, surface_step, surface_near};
 ghost use Rattle.section.specs.points.Steps.{no_edge, SurfaceFrom};
@@ -24,17 +23,13 @@ pub fn edge_is_surface(a: Vertex, b: Vertex) -> bool
 fn passed_over(z: f64, r: f64, a: Vertex, b: Vertex, least: f64) -> bool
     ensures { result ≡ true → (apart (vertex z r) (closest_point (vertex z r) a b) ≺ least) ≡ false }
 {
-    if far_from(least, a.z, b.z, z) {
-        return true;
-    }
-    far_from(least, a.r, b.r, r)
+    far_from(least, a.z, b.z, z) || far_from(least, a.r, b.r, r)
 }
 
 // The edge, if it counts, lowers the distance that best has. Small enough for every loop to take it in, so that
 // best stays in registers.
 fn surface_edge(p: Vertex, edge: Edge, counts: bool, best: Near) -> Near
-    requires { Legs best }
-    ensures { (result.hit ≡ cond counts (nearer best.hit (closest p edge)) best.hit) × Legs result }
+    ensures { result.hit ≡ cond counts (nearer best.hit (closest p edge)) best.hit }
 {
     if counts {
         return point_segment(p, edge, best);
@@ -44,8 +39,8 @@ fn surface_edge(p: Vertex, edge: Edge, counts: bool, best: Near) -> Near
 
 // Edge k may lower it for the point (z, r).
 fn surface_step(s: &[f64], z: f64, r: f64, k: usize, best: Near) -> Near
-    requires { (k < count s.now) × Legs best }
-    ensures { (result.hit ≡ surface_step s.now (vertex z r) k best.hit) × Legs result }
+    requires { k < count s.now }
+    ensures { result.hit ≡ surface_step s.now (vertex z r) k best.hit }
 {
     let edge = edge_at(s, k);
     if passed_over(z, r, edge.a, edge.b, best.hit.distance) {
@@ -56,16 +51,14 @@ fn surface_step(s: &[f64], z: f64, r: f64, k: usize, best: Near) -> Near
 
 // Edges from this one up to that one may lower it.
 fn surface_from(s: &[f64], p: Vertex, from: usize, to: usize, start: Near) -> Near
-    requires { (from ≤ to) × (to ≤ count s.now) × Legs start }
-    ensures { SurfaceFrom s.now p from to start.hit result.hit × Legs result }
+    requires { (from ≤ to) × (to ≤ count s.now) }
+    ensures { SurfaceFrom s.now p from to start.hit result.hit }
 {
     let z = p.z;
     let r = p.r;
     let mut best = start;
-    let mut k = from;
-    while k < to {
+    for k in from..to {
         best = surface_step(s, z, r, k, best);
-        k += 1;
     }
     best
 }
@@ -76,11 +69,9 @@ fn surface_few(s: &[f64], p: Vertex, none: CollisionHit) -> CollisionHit
 {
     let n = s.len() / 2;
     let mut best = legless(none);
-    let mut k = 0;
-    while k < n {
+    for k in 0..n {
         let edge = edge_at(s, k);
         best = surface_edge(p, edge, edge_is_surface(edge.a, edge.b), best);
-        k += 1;
     }
     best.hit
 }
@@ -99,7 +90,7 @@ fn no_edge(s: &[f64]) -> CollisionHit
 // Edge k alone.
 pub fn surface_first(s: &[f64], p: Vertex, k: usize) -> Near
     requires { k < count s.now }
-    ensures { (result.hit ≡ surface_step s.now p k (no_edge s.now)) × Legs result }
+    ensures { result.hit ≡ surface_step s.now p k (no_edge s.now) }
 {
     let edge = edge_at(s, k);
     surface_edge(
@@ -112,7 +103,7 @@ pub fn surface_first(s: &[f64], p: Vertex, k: usize) -> Near
 
 // All edges, of which edge k has been tried.
 pub fn surface_rest(s: &[f64], p: Vertex, k: usize, first: Near) -> CollisionHit
-    requires { (k < count s.now) × (first.hit ≡ surface_step s.now p k (no_edge s.now)) × Legs first }
+    requires { (k < count s.now) × (first.hit ≡ surface_step s.now p k (no_edge s.now)) }
     ensures { result ≡ surface_near s.now p }
 {
     let n = s.len() / 2;

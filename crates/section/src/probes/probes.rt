@@ -7,8 +7,9 @@ ghost use Rattle.section.specs.probes.Probes.{AllOutside, OddNext, OddProbes, Of
 ghost use Rattle.section.specs.probes.Radii.{Reaches};
 
 use super::reach::{reach_of, unparted};
-use super::shapes::{Odd, Probes, Reach};
+use super::shapes::Probes;
 use crate::profile::{CollisionHit, Edge, Vertex, edge_at, end_at, vertex_at};
+use crate::ranges::Range;
 use crate::signed::{crosses, deeper_at, deeper_inside};
 
 fn odd_after(p: Vertex, edge: Edge, odd: bool) -> bool
@@ -18,32 +19,21 @@ fn odd_after(p: Vertex, edge: Edge, odd: bool) -> bool
 }
 
 // No probe is as near to the axis as an axis edge counts.
-fn off_axis(at: Probes) -> bool
+fn off_axis(at: Probes<Vertex>) -> bool
     ensures { result ≡ true → OffAxis at }
 {
-    if at.centre.r <= 1e-8 {
-        return false;
-    }
-    if at.c00.r <= 1e-8 {
-        return false;
-    }
-    if at.c10.r <= 1e-8 {
-        return false;
-    }
-    if at.c11.r <= 1e-8 {
-        return false;
-    }
-    if at.c01.r <= 1e-8 {
-        return false;
-    }
-    true
+    !(at.centre.r <= 1e-8)
+        && !(at.c00.r <= 1e-8)
+        && !(at.c10.r <= 1e-8)
+        && !(at.c11.r <= 1e-8)
+        && !(at.c01.r <= 1e-8)
 }
 
 // One edge more.
-fn odd_next(edge: Edge, at: Probes, odd: Odd) -> Odd
+fn odd_next(edge: Edge, at: Probes<Vertex>, odd: Probes<bool>) -> Probes<bool>
     ensures { OddNext at edge odd result }
 {
-    Odd {
+    Probes {
         centre: odd_after(at.centre, edge, odd.centre),
         c00: odd_after(at.c00, edge, odd.c00),
         c10: odd_after(at.c10, edge, odd.c10),
@@ -53,7 +43,7 @@ fn odd_next(edge: Edge, at: Probes, odd: Odd) -> Odd
 }
 
 // Edge k more. One that no probe's radius parts is passed over.
-fn odd_at(s: &[f64], at: Probes, reach: Reach, k: usize, odd: Odd) -> Odd
+fn odd_at(s: &[f64], at: Probes<Vertex>, reach: Range, k: usize, odd: Probes<bool>) -> Probes<bool>
     requires { (k < count s.now) × Reaches at reach }
     ensures { OddNext at (edge_at s.now k) odd result }
 {
@@ -65,46 +55,29 @@ fn odd_at(s: &[f64], at: Probes, reach: Reach, k: usize, odd: Odd) -> Odd
     odd_next(edge_at(s, k), at, odd)
 }
 
-pub fn odd_probes(s: &[f64], at: Probes) -> Odd
+pub fn odd_probes(s: &[f64], at: Probes<Vertex>) -> Probes<bool>
     ensures { OddProbes s.now at (count s.now) result }
 {
     let n = s.len() / 2;
     let reach = reach_of(at);
-    let mut odd = Odd {
+    let mut odd = Probes {
         centre: false,
         c00: false,
         c10: false,
         c11: false,
         c01: false,
     };
-    let mut k = 0;
-    while k < n {
+    for k in 0..n {
         odd = odd_at(s, at, reach, k, odd);
-        k += 1;
     }
     odd
 }
 
 // No probe lies inside: none is odd, and none as near to the axis as an axis edge counts.
-pub fn none_inside(at: Probes, odd: Odd) -> bool
+pub fn none_inside(at: Probes<Vertex>, odd: Probes<bool>) -> bool
     ensures { result ≡ true → AllOutside at odd }
 {
-    if odd.centre {
-        return false;
-    }
-    if odd.c00 {
-        return false;
-    }
-    if odd.c10 {
-        return false;
-    }
-    if odd.c11 {
-        return false;
-    }
-    if odd.c01 {
-        return false;
-    }
-    off_axis(at)
+    !odd.centre && !odd.c00 && !odd.c10 && !odd.c11 && !odd.c01 && off_axis(at)
 }
 
 // The section may be deeper at p, of which the even-odd rule is known. Outside it is not below 0, and needs

@@ -3,7 +3,9 @@
 ghost use Rattle.std.specs.Prelude.{◌≡◌, true};
 ghost use Rattle.section.specs.probes.Radii.{Reaches, Spans, Unparted};
 
-use super::shapes::{Probes, Reach};
+use super::shapes::Probes;
+use crate::profile::Vertex;
+use crate::ranges::Range;
 
 fn between(lo: f64, x: f64, hi: f64) -> bool
     ensures { result ≡ true → Spans lo x hi }
@@ -11,24 +13,21 @@ fn between(lo: f64, x: f64, hi: f64) -> bool
     lo <= x && x <= hi
 }
 
-pub fn reach_of(at: Probes) -> Reach
+// The least and the greatest radius of the probes, or -infinity and +infinity where they are not in order.
+pub fn reach_of(at: Probes<Vertex>) -> Range
     ensures { Reaches at result }
 {
     let lo = at.c00.r;
     let hi = at.c11.r;
-    if between(lo, at.centre.r, hi) {
-        if between(lo, at.c10.r, hi) {
-            if between(lo, at.c01.r, hi) {
-                return Reach { lo, hi };
-            }
-        }
+    if between(lo, at.centre.r, hi) && between(lo, at.c10.r, hi) && between(lo, at.c01.r, hi) {
+        return Range { lo, hi };
     }
     let top = arith::infinity();
-    Reach { lo: -top, hi: top }
+    Range { lo: -top, hi: top }
 }
 
 // No probe's radius parts the two.
-pub fn unparted(reach: Reach, a: f64, b: f64) -> bool
+pub fn unparted(reach: Range, a: f64, b: f64) -> bool
     ensures { result ≡ true → Unparted reach.lo reach.hi a b }
 {
     let lo = reach.lo;

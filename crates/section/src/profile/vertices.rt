@@ -1,7 +1,7 @@
 // Vertices and edges of a lent list of numbers, z and radius in turn.
-ghost use Rattle.std.specs.Prelude.{◌≡◌, ◌<◌};
+ghost use Rattle.std.specs.Prelude.{◌≡◌, ◌<◌, Bool};
 ghost use Rattle.section.specs.profile.Vertices as profile;
-ghost use Rattle.section.specs.profile.Vertices.{count, vertex_at, end_at, edge_at, next, nearer};
+ghost use Rattle.section.specs.profile.Vertices.{any, count, vertex_at, end_at, edge_at, next, nearer};
 
 use super::shapes::{CollisionHit, Edge, Vertex, Witness};
 
@@ -42,6 +42,21 @@ pub fn edge_at(s: &[f64], k: usize) -> Edge
         b: end_at(s, k),
         number: k,
     }
+}
+
+// Some edge passes the test of where it starts and where it ends.
+pub fn any_edge<F: Fn(Vertex, Vertex) -> bool>(s: &[f64], test: F) -> bool
+    requires { F.IsAlwaysCallable test }
+    ensures { (t : _ → _ → Bool) → ((a b r : _) → F.post test a b r → r ≡ t a b)
+        → result ≡ any (λ k. t (vertex_at s.now k) (end_at s.now k)) (count s.now) }
+{
+    let n = s.len() / 2;
+    for k in 0..n {
+        if test(vertex_at(s, k), end_at(s, k)) {
+            return true;
+        }
+    }
+    false
 }
 
 // The point v as witness of edge k.

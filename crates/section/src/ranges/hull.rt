@@ -34,10 +34,8 @@ pub fn hull_of(c: &[f64]) -> Sides
         z: nothing,
         r: nothing,
     };
-    let mut k = 0;
-    while k < n {
+    for k in 0..n {
         hull = wider_at(c, k, hull);
-        k += 1;
     }
     hull
 }

@@ -1,6 +1,6 @@
 // What lets an edge be passed over: how far it lies from the body along one axis, and that no clip is left.
-ghost use Rattle.std.specs.Prelude.{◌≡◌, true};
-ghost use Rattle.section.specs.segments.Clip.{clip, outside};
+ghost use Rattle.std.specs.Prelude.{◌≡◌, true, None};
+ghost use Rattle.section.specs.segments.Clip.{clip};
 ghost use Rattle.section.specs.ranges.Ranges.{range, range_of, far_apart, gap_between, side_misses, misses_along};
 ghost use Rattle.section.specs.ranges.Hull.{FarOff};
 
@@ -73,22 +73,17 @@ fn side_misses(p: f64, q: f64) -> bool
 }
 
 // One of the two sides across one axis does so: the segment runs from a to b, the box from lo to hi.
+#[tactic(auto, unfolding(crate::specs::ranges::Ranges::misses_along))]
 pub fn misses_along(a: f64, b: f64, lo: f64, hi: f64) -> bool
     ensures { result ≡ misses_along a b lo hi }
 {
     let d = b - a;
-    if side_misses(-d, a - lo) {
-        return true;
-    }
-    side_misses(d, hi - a)
+    side_misses(-d, a - lo) || side_misses(d, hi - a)
 }
 
 // One side of the box alone leaves nothing of the segment from a to b.
 pub fn misses_box(a: Vertex, b: Vertex, x: Aabb) -> bool
-    ensures { result ≡ true → clip x a b ≡ outside }
+    ensures { result ≡ true → clip x a b ≡ None }
 {
-    if misses_along(a.z, b.z, x.z0, x.z1) {
-        return true;
-    }
-    misses_along(a.r, b.r, x.r0, x.r1)
+    misses_along(a.z, b.z, x.z0, x.z1) || misses_along(a.r, b.r, x.r0, x.r1)
 }

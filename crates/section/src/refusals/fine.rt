@@ -26,11 +26,8 @@ fn section_fine(s: &[f64]) -> bool
         return false;
     }
     let n = s.len() / 2;
-    let mut k = 0;
-    while k < n {
-        if vertex_fine(s[k * 2], s[k * 2 + 1]) {
-            k += 1;
-        } else {
+    for k in 0..n {
+        if !vertex_fine(s[k * 2], s[k * 2 + 1]) {
             return false;
         }
     }

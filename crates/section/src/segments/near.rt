@@ -4,7 +4,8 @@ ghost use Rattle.arith.specs.F64.{◌≺◌, 𝟘};
 ghost use Rattle.section.specs.profile.Vertices as profile;
 ghost use Rattle.section.specs.profile.Vertices.{hit};
 ghost use Rattle.section.specs.segments.Segments.{apart};
-ghost use Rattle.section.specs.segments.Legs.{Hopeless, Legs, Nearest};
+ghost use Rattle.section.specs.segments.Hopeless.{Hopeless};
+ghost use Rattle.section.specs.segments.Legs.{Nearest};
 
 use super::segment::nearer_between;
 use super::shapes::Near;
@@ -12,7 +13,7 @@ use crate::profile::{CollisionHit, Vertex};
 
 // A hit whose legs tell nothing.
 pub fn legless(hit: CollisionHit) -> Near
-    ensures { (result.hit ≡ hit) × Legs result }
+    ensures { result.hit ≡ hit }
 {
     let top = arith::infinity();
     Near {
@@ -23,7 +24,6 @@ pub fn legless(hit: CollisionHit) -> Near
 }
 
 pub fn nearer_near(best: Near, new: Near) -> Near
-    requires { Legs best × Legs new }
     ensures { Nearest best new.hit result }
 {
     if new.hit.distance < best.hit.distance {
@@ -49,7 +49,7 @@ pub fn too_far(z: f64, r: f64, least: f64) -> bool
 
 // They have none below the best, as its legs tell, or its distance.
 pub fn hopeless(z: f64, r: f64, best: Near) -> bool
-    requires { ((z ≺ 𝟘) ≡ false) × ((r ≺ 𝟘) ≡ false) × Legs best }
+    requires { ((z ≺ 𝟘) ≡ false) × ((r ≺ 𝟘) ≡ false) }
     ensures { result ≡ true → Hopeless z r best.hit.distance }
 {
     if z >= best.z {
@@ -62,7 +62,6 @@ pub fn hopeless(z: f64, r: f64, best: Near) -> bool
 
 // The point w of edge k, at the distance of p and q, may be nearer than the best.
 pub fn nearer_legs(best: Near, p: Vertex, q: Vertex, k: usize, w: Vertex) -> Near
-    requires { Legs best }
     ensures { Nearest best (hit (apart p q) (profile.on k w)) result }
 {
     let known = best.hit;

@@ -7,7 +7,7 @@ ghost use Rattle.section.specs.profile.Vertices as profile;
 ghost use Rattle.section.specs.profile.Vertices.{vertex, hit, nearer};
 ghost use Rattle.section.specs.segments.Segments.{dot, along, apart, unit_clamp, closest_point, closest};
 ghost use Rattle.section.specs.segments.Segments.{places, closest_places, segments};
-ghost use Rattle.section.specs.segments.Legs.{Legs, Nearest};
+ghost use Rattle.section.specs.segments.Legs.{Nearest};
 
 use super::near::nearer_legs;
 use super::shapes::{Near, Places};
@@ -110,7 +110,6 @@ pub fn closest_point(p: Vertex, a: Vertex, b: Vertex) -> Vertex
 
 // The edge may be nearer to p.
 pub fn point_segment(p: Vertex, edge: Edge, best: Near) -> Near
-    requires { Legs best }
     ensures { Nearest best (closest p edge) result }
 {
     let q = closest_point(p, edge.a, edge.b);
@@ -167,7 +166,6 @@ fn closest_places(a: f64, b: f64, c: f64, e: f64, f: f64) -> Places
 
 // The second segment may be nearer to the edge, at a point of the edge.
 pub fn seg_seg_point_on_first(edge: Edge, p2: Vertex, q2: Vertex, best: Near) -> Near
-    requires { Legs best }
     ensures { Nearest best (segments edge p2 q2) result }
 {
     let p1 = edge.a;

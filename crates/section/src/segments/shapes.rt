@@ -1,10 +1,11 @@
 // What is found on the way to a distance: a clipped part, two places, a hit with its legs.
+ghost use Rattle.section.specs.segments.Hopeless.{Hopeless};
+
 use crate::profile::CollisionHit;
 
-// The part of a segment, from t0 to t1 of its length, that a box holds, if it holds any.
+// The part of a segment from t0 to t1 of its length.
 #[derive(Clone, Copy)]
-pub struct Clip {
-    pub any: bool,
+pub struct Part {
     pub t0: f64,
     pub t1: f64,
 }
@@ -22,4 +23,5 @@ pub struct Near {
     pub hit: CollisionHit,
     pub z: f64,
     pub r: f64,
+    ghost legs: { Hopeless z r hit.distance },
 }

@@ -7,7 +7,7 @@ ghost use Rattle.section.specs.points.Points.{crosses, point_inside, inside_axis
 ghost use Rattle.section.specs.points.Points.{point_distance, sphere_distance};
 
 use crate::points::{edge_is_surface, surface_near};
-use crate::profile::{CollisionHit, Sphere, Vertex, end_at, vertex_at};
+use crate::profile::{CollisionHit, Sphere, Vertex, any_edge, end_at, vertex_at};
 use crate::segments::BOUNDARY;
 use arith::Vec3;
 
@@ -40,10 +40,8 @@ fn point_inside(s: &[f64], p: Vertex) -> bool
 {
     let n = s.len() / 2;
     let mut odd = false;
-    let mut k = 0;
-    while k < n {
+    for k in 0..n {
         odd = odd_step(s, p, k, odd);
-        k += 1;
     }
     odd
 }
@@ -59,37 +57,17 @@ fn inside_axis_edge(z: f64, a: Vertex, b: Vertex) -> bool
     z > z0 + 1e-9 && z < z1 - 1e-9
 }
 
-fn axis_step(s: &[f64], z: f64, k: usize) -> bool
-    requires { k < count s.now }
-    ensures { result ≡ inside_axis_edge z (vertex_at s.now k) (end_at s.now k) }
-{
-    inside_axis_edge(z, vertex_at(s, k), end_at(s, k))
-}
-
 fn on_axis(s: &[f64], z: f64) -> bool
     ensures { let l = s.now in result ≡ any (λ k. inside_axis_edge z (vertex_at l k) (end_at l k)) (count l) }
 {
-    let n = s.len() / 2;
-    let mut k = 0;
-    while k < n {
-        if axis_step(s, z, k) {
-            return true;
-        }
-        k += 1;
-    }
-    false
+    any_edge(s, |a, b| inside_axis_edge(z, a, b))
 }
 
+#[tactic(auto, unfolding(crate::specs::points::Points::in_section))]
 pub fn in_section(s: &[f64], p: Vertex) -> bool
     ensures { result ≡ in_section s.now p }
 {
-    if point_inside(s, p) {
-        return true;
-    }
-    if p.r <= 1e-8 {
-        return on_axis(s, p.z);
-    }
-    false
+    point_inside(s, p) || (p.r <= 1e-8 && on_axis(s, p.z))
 }
 
 // The point (z, r), as two numbers: a Vertex just written is slow to read as a whole.

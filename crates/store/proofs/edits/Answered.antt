@@ -8,8 +8,7 @@ use lib.ListN.{take}
 use Rattle.section.specs.profile.Refusals.{refusal}
 use Rattle.section.specs.profile.Replies.{Reply, value, turned_down}
 use Rattle.store.specs.Store.{numbered}
-use Rattle.store.specs.declared.answers.StoreAnswer.{StoreAnswer}
-use Rattle.store.specs.declared.answers.StoreAnswer.TheVariants.{Accepted, Refused}
+use Rattle.store.specs.Answers.{StoreAnswer, Accepted, Refused}
 use Rattle.store.specs.edits.Written.{written, length_then}
 use Rattle.store.specs.edits.Edits.{space_answer, not_there, not_allowed, no_room, unless, edit_answer, kept, space_after}
 use Rattle.store.specs.edits.Series.{Space, answer, kept_length, edited}

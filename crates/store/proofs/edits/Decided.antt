@@ -8,47 +8,51 @@ use lib.ListN.{length, take, get_or, length-take}
 use lib.Seq.{sets, get_or-take}
 use lib.Dec.{ltb}
 use borrow.Author.Tests.{le-leb, lt-leb}
+use Rattle.std.specs.Prelude.{Result, Err}
+use Rattle.section.specs.declared.shapes.Refusal.{Refusal}
+use Rattle.section.specs.declared.shapes.Refusal.TheVariants as refusals
+use Rattle.section.specs.profile.Numbers.{refusal_number}
 use Rattle.section.specs.profile.Refusals.{refusal, any_of}
 use Rattle.section.specs.profile.Replies.{Reply, value, turned_down}
 use Rattle.store.specs.Chain.{member}
 use Rattle.store.specs.Store.{chained}
-use Rattle.store.specs.declared.answers.StoreAnswer.TheVariants.{Accepted, Refused}
+use Rattle.store.specs.Answers.{Accepted, Refused}
 use Rattle.store.specs.edits.Written.{lowest_from, free_record, last_record, appended, written, length_then}
 use Rattle.store.specs.edits.Edits.{space_answer, not_there, not_allowed, no_room, unless, kept, edit_answer, space_after, Edited}
 use Rattle.store.specs.edits.Steps.{Small, Tried}
 use Rattle.store.specs.declared.edits.shapes.Role.{Role}
 use Rattle.store.specs.declared.edits.shapes.Place.{Place}
 use Rattle.store.specs.declared.edits.shapes.Place.TheVariants.{Record, Add}
-use Rattle.store.specs.declared.edits.shapes.EditAnswer.{EditAnswer}
-use Rattle.store.specs.declared.edits.shapes.EditAnswer.TheVariants.{Refused as Turned}
 use Rattle.store.proofs.edits.Good.{good, count, room, within}
 
 module _ (s : List ℕ) (n : ℕ) (role : Role) (place : Place) (bytes : List ℕ) where
-  turned : {i : ℕ} → edit_answer s n role place bytes ≡ turned_down i → Edited s n role place bytes (Turned i) s
+  turned :
+      {e : Refusal} → edit_answer s n role place bytes ≡ turned_down (refusal_number e) → Edited s n role place bytes (Err e) s
   unfolding space_after
   turned e = record { answer = sym e; space = sym (ap (λ (a : Reply ℕ). kept a (written s n place bytes) s) e) }
 
-  pub refused_space : {i k : ℕ} → space_answer s n ≡ Refused i k → Edited s n role place bytes (Turned i) s
+  pub refused_space :
+      {e : Refusal} {k : ℕ} → space_answer s n ≡ Refused (refusal_number e) k → Edited s n role place bytes (Err e) s
   unfolding edit_answer refusal
   refused_space e = turned (rw e)
 
   module _ (right : space_answer s n ≡ Accepted) where
-    refused_24 : not_there (take n s) place ≡ true → Edited s n role place bytes (Turned 24) s
+    refused_24 : not_there (take n s) place ≡ true → Edited s n role place bytes (Err refusals.NoSuchRecord) s
     unfolding edit_answer refusal
     refused_24 p = turned (rw (right, p))
 
     module _ (there : not_there (take n s) place ≡ false) where
-      refused_22 : not_allowed (take n s) role place bytes ≡ true → Edited s n role place bytes (Turned 22) s
+      refused_22 : not_allowed (take n s) role place bytes ≡ true → Edited s n role place bytes (Err refusals.SettersEdit) s
       unfolding edit_answer refusal
       refused_22 p = turned (rw (right, there, p))
 
       module _ (allowed : not_allowed (take n s) role place bytes ≡ false) where
-        refused_23 : no_room (take n s) place ≡ true → Edited s n role place bytes (Turned 23) s
+        refused_23 : no_room (take n s) place ≡ true → Edited s n role place bytes (Err refusals.StoreFull) s
         unfolding edit_answer refusal
         refused_23 p = turned (rw (right, there, allowed, p))
 
         tried_is_edited :
-            {r : EditAnswer} {after : List ℕ} → no_room (take n s) place ≡ false
+            {r : Result ℕ Refusal} {after : List ℕ} → no_room (take n s) place ≡ false
             → Tried s (written s n place bytes) (length_then s n place) r after → Edited s n role place bytes r after
         unfolding edit_answer space_after refusal
         tried_is_edited {r} {after} p tried =
@@ -65,7 +69,7 @@ module _ (s : List ℕ) (n : ℕ) (role : Role) (place : Place) (bytes : List �
             whole = rw (right, there, allowed, p)
 
 pub at_place :
-    {s : List ℕ} {n : ℕ} {role : Role} {p q : Place} {bytes : List ℕ} {r : EditAnswer} {after : List ℕ} → p ≡ q
+    {s : List ℕ} {n : ℕ} {role : Role} {p q : Place} {bytes : List ℕ} {r : Result ℕ Refusal} {after : List ℕ} → p ≡ q
     → Edited s n role q bytes r after → Edited s n role p bytes r after
 at_place {s} {n} {role} {p} {q} {bytes} {r} {after} e h =
     subst (λ (at : Place). Edited s n role at bytes r after) (sym e) h
@@ -85,7 +89,7 @@ all_small s n right e = record { small = λ k h. chained_small s n right e h }
 module _ (s : List ℕ) (n : ℕ) (role : Role) (k : ℕ) (bytes : List ℕ) {l : List ℕ}
     (right : space_answer s n ≡ Accepted) (read : l ≡ chained (take n s))
   where
-    pub replace_24 : member k l ≡ false → Edited s n role (Record k) bytes (Turned 24) s
+    pub replace_24 : member k l ≡ false → Edited s n role (Record k) bytes (Err refusals.NoSuchRecord) s
     unfolding not_there
     replace_24 h = refused_24 s n role (Record k) bytes right (ap not (rw read at h))
 
@@ -94,11 +98,11 @@ module _ (s : List ℕ) (n : ℕ) (role : Role) (k : ℕ) (bytes : List ℕ) {l 
       unfolding not_there
       there = ap not (rw read at held)
 
-      pub replace_22 : not_allowed (take n s) role (Record k) bytes ≡ true → Edited s n role (Record k) bytes (Turned 22) s
+      pub replace_22 : not_allowed (take n s) role (Record k) bytes ≡ true → Edited s n role (Record k) bytes (Err refusals.SettersEdit) s
       replace_22 h = refused_22 s n role (Record k) bytes right there h
 
       pub replace_done :
-          {r : EditAnswer} {after : List ℕ} → not_allowed (take n s) role (Record k) bytes ≡ false
+          {r : Result ℕ Refusal} {after : List ℕ} → not_allowed (take n s) role (Record k) bytes ≡ false
           → Tried s (sets s (k * 40) bytes) n r after → Edited s n role (Record k) bytes r after
       unfolding written length_then no_room
       replace_done h tried = tried_is_edited s n role (Record k) bytes right there h refl tried
@@ -135,7 +139,7 @@ module _ (s : List ℕ) (n : ℕ) (role : Role) (bytes : List ℕ) (right : spac
   unfolding not_there
   nothing_named = refl
 
-  pub add_22 : not_allowed (take n s) role Add bytes ≡ true → Edited s n role Add bytes (Turned 22) s
+  pub add_22 : not_allowed (take n s) role Add bytes ≡ true → Edited s n role Add bytes (Err refusals.SettersEdit) s
   add_22 h = refused_22 s n role Add bytes right nothing_named h
 
   module _ {l : List ℕ} {m : ℕ} (allowed : not_allowed (take n s) role Add bytes ≡ false) (read : l ≡ chained (take n s))
@@ -145,13 +149,13 @@ module _ (s : List ℕ) (n : ℕ) (role : Role) (bytes : List ℕ) (right : spac
       unfolding free_record
       free = rw (← read, count (good s n right)) (sym found)
 
-      pub add_23 : 512 ≤ m → Edited s n role Add bytes (Turned 23) s
+      pub add_23 : 512 ≤ m → Edited s n role Add bytes (Err refusals.StoreFull) s
       unfolding no_room
       add_23 h =
           refused_23 s n role Add bytes right nothing_named allowed (rw free (le-leb 512 m h))
 
       pub add_done :
-          {t size : ℕ} {r : EditAnswer} {after : List ℕ} → m < 512 → t ≡ last_record (take n s)
+          {t size : ℕ} {r : Result ℕ Refusal} {after : List ℕ} → m < 512 → t ≡ last_record (take n s)
           → size ≡ cond (ltb m (n / 40)) n (n + 40)
           → Tried s (appended s m t bytes) size r after → Edited s n role Add bytes r after
       unfolding no_room written length_then

@@ -11,8 +11,7 @@ use borrow.Author.Tests.{eqb-true}
 use Rattle.store.specs.Records.{records}
 use Rattle.store.specs.Chain.{whole, chain, member}
 use Rattle.store.specs.Store.{and_then, length_answer, chained, store_answer}
-use Rattle.store.specs.declared.answers.StoreAnswer.{StoreAnswer}
-use Rattle.store.specs.declared.answers.StoreAnswer.TheVariants.{Accepted, Refused}
+use Rattle.store.specs.Answers.{StoreAnswer, Accepted, Refused}
 use Rattle.store.proofs.Reading.{accepted_sound, length_accepted}
 use Rattle.store.specs.edits.Edits.{space_answer}
 use Rattle.store.proofs.edits.Whole.{Whole, chain_whole}

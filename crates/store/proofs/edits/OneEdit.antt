@@ -13,7 +13,7 @@ use Rattle.store.specs.Records.{next}
 use Rattle.store.specs.Chain.{whole, chain, member}
 use Rattle.store.specs.Kinds.{is_vertex}
 use Rattle.store.specs.Store.{chained, vertices}
-use Rattle.store.specs.declared.answers.StoreAnswer.TheVariants.{Accepted}
+use Rattle.store.specs.Answers.{Accepted}
 use Rattle.store.specs.edits.Written.{free_record, ending, written, length_then}
 use Rattle.store.specs.edits.Edits.{not_there, not_allowed, no_room}
 use Rattle.store.specs.edits.Series.{Space, store, verdict, section, answer, edited, Forty, NoRepeats}

@@ -2,31 +2,33 @@
 use Prim.Native.Nat.{ℕ, suc, ◌+◌, ◌-◌, ◌<◌, ◌≤◌}
 use native.Mathlib.Omega.{arith}
 use mathlib.Core.Bool.{Bool, true, false, cond}
-use mathlib.Core.List.{List}
-use mathlib.Core.Path.{◌≡◌, sym, ap, subst, ◌∙◌}
-use lib.ListN.{length, take, drop, get_or, set, length-set, replicate, length-replicate, get_or-replicate, drop_of_length-le}
+use mathlib.Core.List.{List, [], ◌∷◌}
+use mathlib.Core.Path.{◌≡◌, refl, sym, ap, subst, ◌∙◌}
+use lib.ListN.{length, take, get_or, set, length-set, replicate, length-replicate, get_or-replicate}
 use lib.Seq.{take_all}
-use borrow.Author.Tests.{eq-eqb, ne_eqb}
+use lib.Dec.{eqb}
+use borrow.Author.Tests.{eq-eqb, ne_eqb, eqb-true, eqb-false}
+use Rattle.std.specs.List.{list_any}
 use Rattle.section.specs.profile.Refusals.{any_of}
 use Rattle.store.specs.Chain.{member}
-use Rattle.store.proofs.Lists.{drop_more, take_more}
+use Rattle.store.proofs.Lists.{take_more}
 use Rattle.store.proofs.Following.{marked_more}
 use Rattle.store.specs.edits.Written.{lowest_from}
 use Rattle.store.specs.edits.Steps.{Small, Marked}
 use Rattle.store.proofs.edits.Members.{get_d_member}
 
-module _ (l : List ℕ) (k i : ℕ) where
-  pub held_here : i < length l → k ≡ get_or l i 0 → member k (drop i l) ≡ true
-  unfolding any_of
-  held_here h e = rw (drop_more l i 0 h, eq-eqb k (get_or l i 0) e)
+turned : (j k : ℕ) → eqb j k ≡ eqb k j
+turned j k = go (eqb k j) refl
+  where
+    go : (same : Bool) → eqb k j ≡ same → eqb j k ≡ same
+    go true e = eq-eqb j k (sym (eqb-true k j e))
+    go false e = ne_eqb j k (λ q. eqb-false k j e (sym q))
 
-  pub held_later : i < length l → (k ≡ get_or l i 0 → ⊥) → member k (drop i l) ≡ member k (drop (i + 1) l)
-  unfolding any_of
-  held_later h other = rw (drop_more l i 0 h, ne_eqb k (get_or l i 0) other)
-
-  pub held_nowhere : length l ≤ i → member k (drop i l) ≡ false
-  unfolding any_of
-  held_nowhere h = rw (drop_of_length-le l h)
+-- the list holds the record where one of its records is it
+pub held_by_one : (k : ℕ) (l : List ℕ) → list_any (λ (j : ℕ). eqb j k) l ≡ member k l
+unfolding any_of
+held_by_one k [] = refl
+held_by_one k (j ∷ l) = rw (held_by_one k l, turned j k)
 
 -- the first i records have their marks
 pub record MarkedTo (l : List ℕ) (i : ℕ) (marks : List Bool) : Type 0 where

@@ -8,7 +8,7 @@ use lib.ListN.{length, get_or}
 use Rattle.section.specs.profile.Replies.{Reply, value, turned_down}
 use Rattle.store.specs.Chain.{whole, chain}
 use Rattle.store.specs.Store.{chained}
-use Rattle.store.specs.declared.answers.StoreAnswer.TheVariants.{Accepted}
+use Rattle.store.specs.Answers.{Accepted}
 use Rattle.store.specs.edits.Written.{touches}
 use Rattle.store.specs.edits.Edits.{kept}
 use Rattle.store.specs.edits.Series.{Space, store, verdict, section, answer, edited, edited_by, carried_out, touched_by, NoRepeats}

@@ -1,26 +1,19 @@
 -- An edit's answer and the space afterwards, in 02's order: 12 for a space of another size, the store's own numbers, then 24, 22
 -- and 23, then the outcome's number. A refused edit changes nothing.
-use Rattle.std.specs.Prelude.{ℕ, Bool, false, not, ◌||◌, cond, List, [], ◌∷◌, ◌≡◌, length, take, eqb, leb}
+use Rattle.std.specs.Prelude.{ℕ, Bool, false, not, ◌||◌, cond, List, [], ◌∷◌, ◌≡◌, length, take, eqb, leb, Result}
+use Rattle.section.specs.declared.shapes.Refusal.{Refusal}
 use Rattle.section.specs.profile.Refusals.{Test, ◌when◌, refusal}
-use Rattle.section.specs.profile.Replies.{Reply, value, turned_down}
+use Rattle.section.specs.profile.Replies.{Reply, value, turned_down, told}
 use Rattle.store.specs.Records.{next}
 use Rattle.store.specs.Chain.{member}
 use Rattle.store.specs.Kinds.{is_vertex}
 use Rattle.store.specs.Store.{and_then, numbered, length_answer, chained, store_answer}
-use Rattle.store.specs.declared.answers.StoreAnswer.{StoreAnswer}
-use Rattle.store.specs.declared.answers.StoreAnswer.TheVariants.{Accepted, Refused}
+use Rattle.store.specs.Answers.{StoreAnswer, Accepted, Refused}
 use Rattle.store.specs.edits.Written.{free_record, written, length_then}
 use Rattle.store.specs.declared.edits.shapes.Role.{Role}
 use Rattle.store.specs.declared.edits.shapes.Role.TheVariants.{Setter, Operator}
 use Rattle.store.specs.declared.edits.shapes.Place.{Place}
 use Rattle.store.specs.declared.edits.shapes.Place.TheVariants.{Record, Add}
-use Rattle.store.specs.declared.edits.shapes.EditAnswer.{EditAnswer}
-use Rattle.store.specs.declared.edits.shapes.EditAnswer.TheVariants.{Length, Refused as Turned}
-
--- what an answer stands for: the length afterwards, or the number
-abbrev pub told : EditAnswer → Reply ℕ
-told (Length n) = value n
-told (Turned n) = turned_down n
 
 -- The verdict on a space s whose first n bytes are the store: 12 for a space of another size, then as the reader judges. The
 -- length is judged by itself first, since a length past the space would cut off nothing.
@@ -71,7 +64,7 @@ space_after s n role place bytes = kept (edit_answer s n role place bytes) (writ
 
 -- what an edit owes: the answer, and every byte of the space afterwards
 pub record Edited
-    (s : List ℕ) (n : ℕ) (role : Role) (place : Place) (bytes : List ℕ) (r : EditAnswer) (after : List ℕ) : Type 0
+    (s : List ℕ) (n : ℕ) (role : Role) (place : Place) (bytes : List ℕ) (r : Result ℕ Refusal) (after : List ℕ) : Type 0
   where
     pub answer : told r ≡ edit_answer s n role place bytes
     pub space : after ≡ space_after s n role place bytes

@@ -2,7 +2,7 @@
 use Rattle.std.specs.Prelude.{ℕ, ◌<◌, Bool, false, ◌||◌, ◌≡◌, List, [], ◌∷◌, length, get_or, take, Float}
 use Rattle.section.specs.profile.Replies.{Reply, value, turned_down}
 use Rattle.store.specs.Store.{chained, vertices}
-use Rattle.store.specs.declared.answers.StoreAnswer.{StoreAnswer}
+use Rattle.store.specs.Answers.{StoreAnswer}
 use Rattle.store.specs.edits.Written.{touches}
 use Rattle.store.specs.edits.Edits.{space_answer, edit_answer, kept, space_after}
 use Rattle.store.specs.declared.edits.shapes.Role.TheVariants.{Operator}

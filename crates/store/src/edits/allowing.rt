@@ -4,26 +4,17 @@ ghost use Rattle.store.specs.edits.Edits.{not_allowed};
 ghost use Rattle.store.specs.declared.edits.shapes.Place.TheVariants.{Record, Add};
 
 use super::shapes::Role;
-use crate::{kind_of, next_of};
+use crate::{Kind, is_kind, next_of};
 
 pub fn replace_not_allowed(store: &[u8], role: Role, k: u32, bytes: &[u8]) -> bool
     ensures { result ≡ not_allowed store.now role (Record k) bytes.now }
 {
     match role {
-        Role::Setter => {
-            return false;
-        }
+        Role::Setter => false,
         Role::Operator => {
-            if k == 0 {
-                return true;
-            }
-            if kind_of(store, k) == 1 {
-                return true;
-            }
-            if next_of(bytes, 0) == next_of(store, k) {
-                return kind_of(bytes, 0) == 1;
-            }
-            return true;
+            k == 0
+                || (is_kind(store, k, Kind::Vertex)
+                    || (next_of(bytes, 0) != next_of(store, k) || is_kind(bytes, 0, Kind::Vertex)))
         }
     }
 }
@@ -32,11 +23,7 @@ pub fn add_not_allowed(store: &[u8], role: Role, added: &[u8]) -> bool
     ensures { result ≡ not_allowed store.now role Add added.now }
 {
     match role {
-        Role::Setter => {
-            return false;
-        }
-        Role::Operator => {
-            return kind_of(added, 0) == 1;
-        }
+        Role::Setter => false,
+        Role::Operator => is_kind(added, 0, Kind::Vertex),
     }
 }

@@ -7,9 +7,5 @@ pub fn put(list: &mut [u8], at: usize, word: &[u8])
     requires { at + length word.now ≤ length list.old }
     ensures { Put list.old at word.now list.new }
 {
-    let mut i = 0;
-    while i < word.len() {
-        list[at + i] = word[i];
-        i += 1;
-    }
+    list[at..at + word.len()].copy_from_slice(word);
 }

@@ -1,27 +1,21 @@
 // The verdict on a space with a store at its front, and the chain of an accepted one.
 ghost use Rattle.std.specs.Prelude.{◌≡◌, ◌≤◌, length, take};
 ghost use Rattle.store.specs.Store.{chained};
-ghost use Rattle.store.specs.declared.answers.StoreAnswer.TheVariants.{Accepted};
+ghost use Rattle.store.specs.Answers.{Accepted, told};
 ghost use Rattle.store.specs.edits.Edits.{space_answer};
 
-use crate::{Filled, StoreAnswer};
+use crate::RefusedStore;
+use section::Refusal;
 
 // A length past the space is refused before it is used.
-pub fn space_answer(space: &[u8], n: usize) -> StoreAnswer
-    ensures { result ≡ space_answer space.now n }
+pub fn space_answer(space: &[u8], n: usize) -> Result<(), RefusedStore>
+    ensures { told result ≡ space_answer space.now n }
 {
-    if space.len() == 20480 {
-        let right = crate::reader::length_answer(n);
-        match right {
-            StoreAnswer::Refused(number, k) => {
-                return StoreAnswer::Refused(number, k);
-            }
-            StoreAnswer::Accepted => {
-                return crate::reader::read_store(&space[..n]);
-            }
-        }
+    if space.len() != 20480 {
+        return Err(Refusal::StoreLength.into());
     }
-    StoreAnswer::Refused(12, 0)
+    crate::reader::length_answer(n)?;
+    crate::reader::read_store(&space[..n])
 }
 
 // Puts the chained records of an accepted store into order, and says how many there are.
@@ -29,9 +23,5 @@ pub fn chain_of(space: &[u8], n: usize, order: &mut [u32]) -> usize
     requires { (space_answer space.now n ≡ Accepted) × (length order.old ≡ 512) }
     ensures { (take result order.new ≡ chained (take n space.now)) × (result ≤ 512) }
 {
-    let filled = crate::reader::read_chain(&space[..n], order);
-    match filled {
-        Filled::Front(count) => count,
-        Filled::Refused(_, _) => 0,
-    }
+    crate::reader::read_chain(&space[..n], order).unwrap_or(0)
 }

@@ -7,14 +7,7 @@ ghost use Rattle.store.specs.edits.Steps.{Small, Marked};
 pub fn holds(order: &[u32], k: u32) -> bool
     ensures { result ≡ member k order.now }
 {
-    let mut i = 0;
-    while i < order.len() {
-        if k == order[i] {
-            return true;
-        }
-        i += 1;
-    }
-    false
+    order.contains(&k)
 }
 
 // Each record of the chain gets its mark.
@@ -23,11 +16,8 @@ fn marks_of(order: &[u32]) -> [bool; 512]
     ensures { Marked order.now result }
 {
     let mut marks = [false; 512];
-    let mut i = 0;
-    while i < order.len() {
-        let k = order[i] as usize;
-        marks[k] = true;
-        i += 1;
+    for k in order {
+        marks[*k as usize] = true;
     }
     marks
 }
@@ -38,13 +28,10 @@ pub fn lowest(order: &[u32], count: usize) -> usize
     ensures { result ≡ lowest_from order.now count 0 }
 {
     let marks = marks_of(order);
-    let mut m: usize = 0;
-    while m < count {
-        if marks[m] {
-            m += 1;
-        } else {
+    for m in 0..count {
+        if !marks[m] {
             return m;
         }
     }
-    m
+    count
 }

@@ -1,4 +1,4 @@
-// Who edits, where, with what, and what an edit answers.
+// Who edits, where, and with what.
 
 // An operator works on bodies; vertices and links are the setter's.
 #[derive(Clone, Copy)]
@@ -19,11 +19,4 @@ pub struct Edit {
     pub role: Role,
     pub place: Place,
     pub bytes: [u8; 40],
-}
-
-// The store's length in bytes afterwards, or the number under which the edit is turned down.
-#[derive(Clone, Copy)]
-pub enum EditAnswer {
-    Length(usize),
-    Refused(u32),
 }

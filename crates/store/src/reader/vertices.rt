@@ -4,14 +4,14 @@ ghost use Rattle.store.specs.Store as store_specs;
 ghost use Rattle.store.specs.Store.{vertex_numbers};
 ghost use Rattle.store.specs.Steps.{SectionRoom, Adds, Gathers};
 
-use crate::{kind_of, number_of};
+use crate::{Kind, is_kind, number_of};
 
 // Puts record k, if it is a vertex, behind n others while there is room for it, and counts it.
 fn add_vertex(store: &[u8], k: u32, space: &mut [f64], n: usize) -> usize
     requires { (length space.old ≡ 512) × (n < 2 ^ 32) }
     ensures { Adds (vertex_numbers store.now k) n space.old space.new result }
 {
-    if kind_of(store, k) == 1 {
+    if is_kind(store, k, Kind::Vertex) {
         if n < 256 {
             space[n * 2] = number_of(store, k, 0);
             space[n * 2 + 1] = number_of(store, k, 1);
@@ -28,10 +28,8 @@ pub fn gather(store: &[u8], order: &[u32], space: &mut [f64]) -> usize
     ensures { Gathers (store_specs.vertices store.now order.now) space.new result }
 {
     let mut n = 0;
-    let mut i = 0;
-    while i < order.len() {
-        n = add_vertex(store, order[i], space, n);
-        i += 1;
+    for k in order {
+        n = add_vertex(store, *k, space, n);
     }
     n
 }

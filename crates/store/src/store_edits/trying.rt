@@ -5,27 +5,27 @@ ghost use Rattle.store.specs.edits.Written as edits_specs;
 ghost use Rattle.store.specs.edits.Written.{appended};
 ghost use Rattle.store.specs.edits.Steps.{Tried};
 
-use crate::StoreAnswer;
-use crate::edits::{EditAnswer, put, space_answer};
+use crate::edits::{put, space_answer};
+use section::Refusal;
 
 // Accepted, the trial becomes the space.
-fn keep(space: &mut [u8], trial: &[u8], size: usize) -> EditAnswer
+fn keep(space: &mut [u8], trial: &[u8], size: usize) -> Result<usize, Refusal>
     requires { length space.old ≡ length trial.now }
     ensures { Tried space.old trial.now size result space.new }
 {
-    let judged = space_answer(trial, size);
-    match judged {
-        StoreAnswer::Refused(number, _) => EditAnswer::Refused(number),
-        StoreAnswer::Accepted => {
-            put(space, 0, trial);
-            EditAnswer::Length(size)
-        }
-    }
+    space_answer(trial, size)?;
+    put(space, 0, trial);
+    Ok(size)
 }
 
 // The bytes in the place of record k.
-pub fn try_replace(space: &mut [u8], size: usize, k: u32, bytes: &[u8]) -> EditAnswer
-    requires { (length space.old ≡ 20480) × (length bytes.now ≡ 40) × (k < 512) }
+pub fn try_replace(
+    space: &mut [u8],
+    size: usize,
+    k: u32,
+    bytes: &[u8; 40],
+) -> Result<usize, Refusal>
+    requires { (length space.old ≡ 20480) × (k < 512) }
     ensures { let s = space.old in
         Tried s (sets s (k * 40) bytes.now) size result space.new }
 {
@@ -36,22 +36,23 @@ pub fn try_replace(space: &mut [u8], size: usize, k: u32, bytes: &[u8]) -> EditA
 }
 
 // The 40 bytes with next 0, whatever next they have.
-fn ending(bytes: &[u8]) -> [u8; 40]
-    requires { length bytes.now ≡ 40 }
+fn ending(bytes: &[u8; 40]) -> [u8; 40]
     ensures { result ≡ edits_specs.ending bytes.now }
 {
     let mut new = [0u8; 40];
-    let mut i = 4;
-    while i < 40 {
-        new[i] = bytes[i];
-        i += 1;
-    }
+    new[4..].copy_from_slice(&bytes[4..]);
     new
 }
 
 // The bytes, with next 0, in record m, and record t's next leading to it.
-pub fn try_add(space: &mut [u8], size: usize, m: usize, t: u32, bytes: &[u8]) -> EditAnswer
-    requires { (length space.old ≡ 20480) × (length bytes.now ≡ 40) × (m < 512) × (t < 512) }
+pub fn try_add(
+    space: &mut [u8],
+    size: usize,
+    m: usize,
+    t: u32,
+    bytes: &[u8; 40],
+) -> Result<usize, Refusal>
+    requires { (length space.old ≡ 20480) × (m < 512) × (t < 512) }
     ensures { let s = space.old in
         Tried s (appended s m t bytes.now) size result space.new }
 {
@@ -59,9 +60,7 @@ pub fn try_add(space: &mut [u8], size: usize, m: usize, t: u32, bytes: &[u8]) ->
     put(&mut trial, 0, space);
     let new = ending(bytes);
     put(&mut trial, m * 40, &new);
-    let low = (m % 256) as u8;
-    let high = (m / 256) as u8;
-    let link = [low, high, 0, 0];
+    let link = (m as u32).to_le_bytes();
     put(&mut trial, t as usize * 40, &link);
     keep(space, &trial, size)
 }

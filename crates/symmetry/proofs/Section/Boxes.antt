@@ -1,10 +1,12 @@
 -- The distance of a box does not see the sign of a zero in its bounds, nor how they are written: distance and witness are the
 -- same but for the sign of a zero, and the edge is the same.
 use Prim.Native.Nat.{◌*◌, ◌+◌, suc, zero, ℕ}
-use mathlib.Core.Bool.{◌&&◌, ◌||◌, Bool, not}
+use mathlib.Core.Bool.{◌&&◌, ◌||◌, Bool}
 use mathlib.Core.List.{List}
-use mathlib.Core.Path.{ap, refl, ◌≡◌}
+use mathlib.Core.Path.{refl, ◌≡◌}
 use lib.Ieee.{binary64, Float, neg}
+use Rattle.std.specs.Prelude.{Option, None, Some}
+use Rattle.std.specs.Option.{option_and_then, option_map_or}
 use Rattle.arith.specs.F64.{◌⊘◌, ◌≺◌, ◌≼◌, 𝟘, 𝟙, ½, e_9, e_12, e_15, e_18}
 use Rattle.arith.specs.Num.{abs}
 use Rattle.section.specs.profile.Vertices.{count, edge_at, end_at, next, vertex_at}
@@ -14,7 +16,7 @@ use Rattle.section.specs.declared.profile.shapes.Edge.{Edge}
 use Rattle.section.specs.declared.profile.shapes.Witness.{Witness}
 use Rattle.section.specs.segments.Clip.{clip, clip_side, part}
 use Rattle.section.specs.segments.Segments.{minus}
-use Rattle.section.specs.declared.segments.shapes.Clip.{Clip}
+use Rattle.section.specs.declared.segments.shapes.Part.{Part}
 use Rattle.section.specs.points.Overlap.{result_of}
 use Rattle.section.specs.boxes.Boxes.{box_distance, box_gap, box_holds, box_penetration, box_witness, corners, edge_box, middle, probe}
 use Rattle.section.specs.boxes.Boxes.{segment_through_interior, strictly_inside_aabb}
@@ -33,39 +35,56 @@ pub record EqualBox (x y : Aabb) : Type 0 where
   pub r1 : Equal x.r1 y.r1
 
 -- ---- the clip
-record LikeClip (c d : Clip) : Type 0 where
-  pub any : c.any ≡ d.any
+record LikePart (c d : Part) : Type 0 where
   pub t0 : Like c.t0 d.t0
   pub t1 : Like c.t1 d.t1
 
-same_clip : {c : Clip} → LikeClip c c
-same_clip = record { any = refl; t0 = same; t1 = same }
+abbrev LikeClip : Option Part → Option Part → Type 0
+LikeClip None None = Unit
+LikeClip None (Some d) = ⊥
+LikeClip (Some c) None = ⊥
+LikeClip (Some c) (Some d) = LikePart c d
 
-side_like : (p : Float) {q q' : Float} {c c' : Clip} → Like q q' → LikeClip c c' → LikeClip (clip_side p q c) (clip_side p q' c')
+side_like : (p : Float) {q q' : Float} (c c' : Part) → Like q q' → LikePart c c' → LikeClip (clip_side p q c) (clip_side p q' c')
 unfolding clip_side
-side_like p {q} {q'} {c} {c'} Q C =
-    either LikeClip (ap not C.any) (λ g. C)
-    (λ g. branch LikeClip (abs p ≼ e_18)
-    (λ h. either LikeClip (like_lt Q (same {x = neg e_15})) (λ k. same_clip) (λ k. C))
+side_like p {q} {q'} c c' Q C =
+    branch LikeClip (abs p ≼ e_18)
+    (λ h. either LikeClip (like_lt Q (same {x = neg e_15})) (λ k. tt) (λ k. C))
     (λ h. branch LikeClip (p ≺ 𝟘)
-    (λ k. either LikeClip (like_lt C.t1 t) (λ l. same_clip)
-    (λ l. either LikeClip (like_lt C.t0 t) (λ m. record { any = refl; t0 = t; t1 = C.t1 }) (λ m. C)))
-    (λ k. either LikeClip (like_lt t C.t0) (λ l. same_clip)
-    (λ l. either LikeClip (like_lt t C.t1) (λ m. record { any = refl; t0 = C.t0; t1 = t }) (λ m. C)))))
+    (λ k. either LikeClip (like_lt C.t1 t) (λ l. tt)
+    (λ l. either LikeClip (like_lt C.t0 t) (λ m. record { t0 = t; t1 = C.t1 }) (λ m. C)))
+    (λ k. either LikeClip (like_lt t C.t0) (λ l. tt)
+    (λ l. either LikeClip (like_lt t C.t1) (λ m. record { t0 = C.t0; t1 = t }) (λ m. C))))
   where
     t : Like (q ⊘ p) (q' ⊘ p)
     t = like_div binary64 p Q
+
+then_like : (f g : Part → Option Part) (o o' : Option Part) → ((c d : Part) → LikePart c d → LikeClip (f c) (g d))
+    → LikeClip o o' → LikeClip (option_and_then f o) (option_and_then g o')
+then_like f g None None h C = tt
+then_like f g None (Some d) h C = absurd C
+then_like f g (Some c) None h C = absurd C
+then_like f g (Some c) (Some d) h C = h c d C
+
+-- what is made of a part, or of none
+map_like : {A : Type 0} (P : A → A → Type 0) (f g : Part → A) (o o' : Option Part) {x y : A}
+    → ((c d : Part) → LikePart c d → P (f c) (g d)) → P x y → LikeClip o o' → P (option_map_or f o x) (option_map_or g o' y)
+map_like P f g None None h k C = k
+map_like P f g None (Some d) h k C = absurd C
+map_like P f g (Some c) None h k C = absurd C
+map_like P f g (Some c) (Some d) h k C = h c d C
 
 module _ {x x' : Aabb} (X : EqualBox x x') where
   clip_like : (a b : Vertex) → LikeClip (clip x a b) (clip x' a b)
   unfolding clip
   clip_like a b =
       let d = minus b a in
-      let c₁ = side_like (neg d.z) (equal_sub binary64 (one (same {x = a.z})) X.z0) (same_clip {c = part 𝟘 𝟙}) in
-      let c₂ = side_like d.z (equal_sub binary64 X.z1 (one (same {x = a.z}))) c₁ in
-      let c₃ = side_like (neg d.r) (equal_sub binary64 (one (same {x = a.r})) X.r0) c₂ in
-      let c₄ = side_like d.r (equal_sub binary64 X.r1 (one (same {x = a.r}))) c₃ in
-      either LikeClip (like_lt c₄.t1 c₄.t0) (λ h. same_clip) (λ h. c₄)
+      let c₁ = side_like (neg d.z) (part 𝟘 𝟙) (part 𝟘 𝟙) (equal_sub binary64 (one (same {x = a.z})) X.z0)
+      (record { t0 = same; t1 = same }) in
+      let c₂ = then_like _ _ _ _ (λ c c'. side_like d.z c c' (equal_sub binary64 X.z1 (one (same {x = a.z})))) c₁ in
+      let c₃ = then_like _ _ _ _ (λ c c'. side_like (neg d.r) c c' (equal_sub binary64 (one (same {x = a.r})) X.r0)) c₂ in
+      let c₄ = then_like _ _ _ _ (λ c c'. side_like d.r c c' (equal_sub binary64 X.r1 (one (same {x = a.r})))) c₃ in
+      then_like _ _ _ _ (λ c c' C. either LikeClip (like_lt C.t1 C.t0) (λ h. tt) (λ h. C)) c₄
 
   -- ---- corners and sides
   corners_like : EqualList (corners x) (corners x')
@@ -78,13 +97,13 @@ module _ {x x' : Aabb} (X : EqualBox x x') where
   edge_like : (e : Edge) → LikeHit (edge_box x e) (edge_box x' e)
   unfolding edge_box
   edge_like e =
-      let c = clip_like e.a e.b in
-      either LikeHit c.any
-      (λ h. record {
+      map_like LikeHit _ _ (clip x e.a e.b) (clip x' e.a e.b)
+      (λ c c' C. record {
         distance = same;
-        witness = on_like e.number (along_like (same_point_lem {v = e.a}) (same_point_lem {v = e.b}) c.t0);
+        witness = on_like e.number (along_like (same_point_lem {v = e.a}) (same_point_lem {v = e.b}) C.t0);
       })
-      (λ h. nearest_like same_hit (λ k. segments_like e (corner_like k) (corner_like (next 4 k))) 4)
+      (nearest_like same_hit (λ k. segments_like e (corner_like k) (corner_like (next 4 k))) 4)
+      (clip_like e.a e.b)
 
   -- ---- more than 1e-9 inside
   inside_like : {v v' : Vertex} → EqualVertex v v' → strictly_inside_aabb x v ≡ strictly_inside_aabb x' v'
@@ -110,13 +129,11 @@ module _ {x x' : Aabb} (X : EqualBox x x') where
   through_like : (a b : Vertex) → segment_through_interior x a b ≡ segment_through_interior x' a b
   unfolding segment_through_interior
   through_like a b =
-      let c = clip_like a b in
       let A = same_point_lem {v = a} in
       let B = same_point_lem {v = b} in
-      by c.any (inside_like (middle_like (point_of_lem (along_like A B c.t0)) (point_of_lem (along_like A B c.t1))))
-    where
-      by : {t t' u u' : Bool} → t ≡ t' → u ≡ u' → (t && u) ≡ (t' && u')
-      by e f = rw (e, f)
+      map_like (λ t t'. t ≡ t') _ _ (clip x a b) (clip x' a b)
+      (λ c c' C. inside_like (middle_like (point_of_lem (along_like A B C.t0)) (point_of_lem (along_like A B C.t1))))
+      refl (clip_like a b)
 
   probe_like : (k : ℕ) → EqualVertex (probe x k) (probe x' k)
   probe_like zero = middle_like (corner_like 0) (corner_like 2)

@@ -6,6 +6,7 @@ use mathlib.Core.Path.{◌≡◌, refl, sym, ◌∙◌}
 use native.Mathlib.Nat.{le_of_eq, le_refl, le_trans, lt_of_lt_of_le, mul-le-mul_right, not-le_of_lt, one-mul}
 use native.Mathlib.Omega.{arith}
 use lib.Dec.{leb→le, T}
+use Rattle.std.specs.Prelude.{Option, Some}
 use lib.Pow.{pow_pos}
 use lib.Ieee.{binary64, div, fits, Float, Format, is_nan, low, lt, neg, of_bits, prec, sub}
 use Rattle.arith.proofs.roots.Rounding.Fraction.{rounded, rounded_fix, rounded_zero}
@@ -26,7 +27,7 @@ use Rattle.section.proofs.profile.Steps.{pick}
 use Rattle.section.specs.declared.profile.shapes.Aabb.{Aabb}
 use Rattle.section.specs.declared.profile.shapes.Vertex.{Vertex}
 use Rattle.section.specs.segments.Clip.{clip, clip_side, part}
-use Rattle.section.specs.declared.segments.shapes.Clip.{Clip}
+use Rattle.section.specs.declared.segments.shapes.Part.{Part}
 use Rattle.truth.proofs.Boxes.Floats.{U}
 use Rattle.truth.proofs.Boxes.Taken.{one_key}
 
@@ -100,10 +101,10 @@ module _ (p q : Float) (P : Finite 24 p) (Q : Finite 24 q) (q⁺ : M ≤ K q) (c
   abbrev t : Float
   t = q ⊘ p
 
-  abbrev whole : Clip
+  abbrev whole : Part
   whole = part 𝟘 𝟙
 
-  stays : clip_side p q whole ≡ whole
+  stays : clip_side p q whole ≡ Some whole
   unfolding clip_side
   stays =
       pick Whole (abs p ≼ e_18) (λ h. pick Whole (q ≺ neg e_15) (λ k. absurd (inward k)) (λ k. refl))
@@ -114,8 +115,8 @@ module _ (p q : Float) (P : Finite 24 p) (Q : Finite 24 q) (q⁺ : M ≤ K q) (c
       (λ k. pick Whole (t ≺ 𝟘) (λ l. absurd (leaves h k 𝟘 zero_number (le_trans (le_of_eq zero_key) (more M U)) l))
       (λ l. pick Whole (t ≺ 𝟙) (λ o. absurd (leaves h k 𝟙 (finite_number_lem one_finite) (le_of_eq one_key) o)) (λ o. refl))))
     where
-      Whole : Clip → Type 0
-      Whole c = c ≡ whole
+      Whole : Option Part → Type 0
+      Whole c = c ≡ Some whole
 
       more : (m u : ℕ) → m ≤ m + u
       more m u = omega arith
@@ -193,11 +194,11 @@ not_negative x y X Y h = go (K (y ⊖ x)) (K (x ⊖ y)) M (turned_sum binary64 y
 
 -- one coordinate: from a to b, both between l and h
 module _ (a b l h : Float) (A : Finite 23 a) (B : Finite 23 b) (L : Finite 23 l) (H : Finite 23 h) where
-  pub stays_low : K l ≤ K a → K l ≤ K b → clip_side (neg (b ⊖ a)) (a ⊖ l) (part 𝟘 𝟙) ≡ part 𝟘 𝟙
+  pub stays_low : K l ≤ K a → K l ≤ K b → clip_side (neg (b ⊖ a)) (a ⊖ l) (part 𝟘 𝟙) ≡ Some (part 𝟘 𝟙)
   stays_low p q = stays (neg (b ⊖ a)) (a ⊖ l) (neg_finite (sub_finite B A tt)) (sub_finite A L tt) (not_negative a l A L p)
       (le_trans (le_of_eq (neg_turned b a B A)) (sub_mono a a b l A A B L (le_refl (K a)) q))
 
-  pub stays_high : K a ≤ K h → K b ≤ K h → clip_side (b ⊖ a) (h ⊖ a) (part 𝟘 𝟙) ≡ part 𝟘 𝟙
+  pub stays_high : K a ≤ K h → K b ≤ K h → clip_side (b ⊖ a) (h ⊖ a) (part 𝟘 𝟙) ≡ Some (part 𝟘 𝟙)
   stays_high p q = stays (b ⊖ a) (h ⊖ a) (sub_finite B A tt) (sub_finite H A tt) (not_negative h a H A p)
       (sub_mono b h a a B H A A q (le_refl (K a)))
 
@@ -219,7 +220,7 @@ pub record Inside (x : Aabb) (v : Vertex) : Type 0 where
   pub r_from : K x.r0 ≤ K v.r
   pub r_to : K v.r ≤ K x.r1
 
-pub clip_whole : (x : Aabb) (a b : Vertex) → Sized x a b → Inside x a → Inside x b → clip x a b ≡ part 𝟘 𝟙
+pub clip_whole : (x : Aabb) (a b : Vertex) → Sized x a b → Inside x a → Inside x b → clip x a b ≡ Some (part 𝟘 𝟙)
 unfolding clip lt of_bits
 clip_whole x a b S A B = rw (
   stays_low a.z b.z x.z0 x.z1 S.az S.bz S.z0 S.z1 A.z_from B.z_from,

@@ -1,12 +1,14 @@
 -- 01'S EDGE AND BOX, of a box that is wide both ways: the distance reported exceeds the exact distance from no point of the edge
 -- to a point of the box by more than ε and 365 u. A clipped edge has 0; any other the least of the four sides.
 use Prim.Native.Nat.{◌*◌, ◌+◌, ◌-◌, ◌<◌, ◌^◌, suc, zero-le, ℕ, ◌≤◌}
-use mathlib.Core.Bool.{false, not}
+use mathlib.Core.Bool.{false}
 use mathlib.Core.Logic.{inl, inr}
-use mathlib.Core.Path.{◌≡◌, refl, subst, sym}
+use mathlib.Core.Path.{◌≡◌, refl, subst, sym, ◌∙◌}
 use native.Mathlib.Nat.{le_of_eq, le_of_lt, le_refl, le_trans, mul-le-mul, mul-le-mul_left}
 use native.Mathlib.Omega.{arith}
-use lib.Dec.{leb→le, T, T_not}
+use lib.Dec.{leb→le, T}
+use Rattle.std.specs.Prelude.{None}
+use Rattle.std.proofs.lemmas.Option.{none-some}
 use lib.Ieee.{binary64, Float, prec}
 use Rattle.arith.proofs.roots.Rounding.Key.{number}
 use Rattle.arith.proofs.roots.Rounding.KeyOrder.{lt→key, nlt→key}
@@ -15,7 +17,7 @@ use Rattle.arith.proofs.Laws.Bounded.{bounded_up}
 use Rattle.arith.proofs.Laws.BoundedValue.{bounded→value}
 use Rattle.arith.proofs.Laws.Hypot.{inf_number}
 use Rattle.arith.proofs.Laws.Sizes.{Finite, finite_number_lem, K, M, zero_key}
-use Rattle.section.proofs.profile.Steps.{pick, upto_steps}
+use Rattle.section.proofs.profile.Steps.{pick, pick_some, upto_steps}
 use Rattle.section.specs.profile.Vertices.{end_at, hit, nearer, nearest_of, on, vertex_at}
 use Rattle.section.specs.declared.profile.shapes.Aabb.{Aabb}
 use Rattle.section.specs.declared.profile.shapes.CollisionHit.{CollisionHit}
@@ -23,7 +25,6 @@ use Rattle.section.specs.declared.profile.shapes.Edge.{Edge}
 use Rattle.section.specs.declared.profile.shapes.Vertex.{Vertex}
 use Rattle.section.specs.segments.Clip.{clip}
 use Rattle.section.specs.segments.Segments.{segments}
-use Rattle.section.specs.declared.segments.shapes.Clip.{Clip}
 use Rattle.section.specs.boxes.Boxes.{corners, edge_box}
 use Rattle.section.specs.Demand.{AtMost}
 use Rattle.section.proofs.Demand.AtMost.{value_at_most}
@@ -169,22 +170,21 @@ module _ (e : ℕ) (most : prec binary64 + e ≤ 1097) (edge : Edge) (x : Aabb) 
   abbrev pub In : Vertex → Type 0
   In v = (K x.z0 ≤ K v.z) × (K v.z ≤ K x.z1) × (K x.r0 ≤ K v.r) × (K v.r ≤ K x.r1)
 
-  clipped : T (not (clip x edge.a edge.b).any) → In edge.a → In edge.b → ⊥
-  clipped h a b = T_not (clip x edge.a edge.b).any h
-      (subst (λ (c : Clip). T c.any) (sym (clip_whole x edge.a edge.b sized
+  clipped : clip x edge.a edge.b ≡ None → In edge.a → In edge.b → ⊥
+  clipped h a b = none-some _ (sym h ∙ clip_whole x edge.a edge.b sized
       (record { z_from = a.0; z_to = a.1; r_from = a.2; r_to = a.3 }) (record {
         z_from = b.0;
         z_to = b.1;
         r_from = b.2;
         r_to = b.3;
-      }))) tt)
+      }))
 
   -- A CLIPPED EDGE HAS 0; of any other, what is no more than each of the four sides' distances, and the ends are not both inside
   pub by_sides : (η : ℕ) → ((w : ℕ) → ((k : ℕ) → k < 4 → w ≤ K (side k).distance - M) → (In edge.a → In edge.b → ⊥)
       → BoxFar (w - η) edge x)
       → BoxFar (K (edge_box x edge).distance - M - η) edge x
   unfolding edge_box
-  by_sides η f = pick Here (clip x edge.a edge.b).any (λ h. record {
+  by_sides η f = pick_some Here (clip x edge.a edge.b) (λ c h. record {
     proof = λ n E F p m z r z0 z1 r0 r1. far_none _ n E F m z r (zero (K 𝟘) M η zero_key);
   }) (λ h. f (K (nearest_of side start 4).distance - M) (λ k l. less (least.least k l)) (clipped h))
     where

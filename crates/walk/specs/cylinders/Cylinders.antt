@@ -1,7 +1,7 @@
 -- What the cylinder query answers: a hit with its counts and mark, or the number under which it is turned down.
 use Rattle.std.specs.Prelude.{Bool, true, false, List, [], ◌∷◌, ◌++◌, Float}
 use Rattle.section.specs.profile.Refusals.{Test, ◌when◌, refusal, point_numbers, radius_tests, beside_tests}
-use Rattle.section.specs.profile.Replies.{Reply, value, turned_down, reply}
+use Rattle.section.specs.profile.Replies.{Reply, reply}
 use Rattle.section.specs.boxes.Boxes.{box_distance}
 use Rattle.walk.specs.bands.Axis.{axis}
 use Rattle.walk.specs.bands.Band.{axial_box, band_of, exchanged}
@@ -12,13 +12,6 @@ use Rattle.walk.specs.declared.settings.shapes.Settings.{Settings}
 use Rattle.walk.specs.declared.bands.shapes.Axis.{Axis}
 use Rattle.walk.specs.declared.bands.shapes.Axis.TheVariants.{Axial, AlongX, AlongY, Neither}
 use Rattle.walk.specs.declared.shapes.CountedHit.{CountedHit}
-use Rattle.walk.specs.declared.cylinders.shapes.CountedAnswer.{CountedAnswer}
-use Rattle.walk.specs.declared.cylinders.shapes.CountedAnswer.TheVariants.{Hit, Refused}
-
--- what each case stands for
-abbrev pub told : CountedAnswer → Reply CountedHit
-told (Hit h) = value h
-told (Refused n) = turned_down n
 
 abbrev pub neither : Axis → Bool
 neither Axial = false

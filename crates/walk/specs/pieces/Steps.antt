@@ -1,78 +1,50 @@
--- What the functions on pieces compute on the way, and what they ask of the arrays in which pieces wait.
-use Rattle.std.specs.Prelude.{ℕ, zero, suc, ◌+◌, ◌*◌, ◌<◌, ◌≤◌, Bool, true, cond, List, [], ◌∷◌, ◌≡◌, length, get_or, Float}
+-- What the functions on pieces compute on the way, and what is known of the pieces that wait.
+use Rattle.std.specs.Prelude.{ℕ, zero, suc, ◌+◌, ◌*◌, List, [], ◌∷◌, map, ◌≡◌, Float, get_or}
 use Rattle.std.specs.Float.{nan}
-use Rattle.section.specs.profile.Vertices.{count}
-use Rattle.walk.specs.bands.Band.{half_width, span, span_at}
+use Rattle.walk.specs.bands.Band.{half_width, mean, span, span_at}
 use Rattle.walk.specs.declared.bands.shapes.RadialBand.{RadialBand}
-use Rattle.walk.specs.pieces.Pieces.{piece, box_hit, variation, halves}
+use Rattle.walk.specs.pieces.Pieces.{piece, whole_width, box_hit, variation}
 use Rattle.walk.specs.declared.pieces.shapes.Piece.{Piece}
 use Rattle.walk.specs.declared.pieces.shapes.Cross.{Cross}
-use Rattle.walk.specs.declared.pieces.shapes.Ends.{Ends}
+use Rattle.walk.specs.declared.pieces.shapes.Part.{Part}
 use Rattle.walk.specs.declared.pieces.shapes.Measured.{Measured}
 
 -- the distance of a piece's box, and its variation
 abbrev pub measure : List Float → RadialBand → Piece → Measured
 measure s b p = record { hit = box_hit s b p; variation = variation b p }
 
--- half width and span at z; at a piece's ends and at the axis
+-- half width and span at z
 abbrev pub cross_at : RadialBand → Float → Cross
 cross_at b z = record { rho = half_width b z; span = span_at b (half_width b z) }
 
-abbrev pub ends_of : RadialBand → Piece → Ends
-ends_of b p = record { left = cross_at b p.z0; right = cross_at b p.z1; middle = cross_at b b.zc }
+-- ---- the pieces that wait, each with what is known at its left end
 
--- what the measuring of a piece's box asks
-pub record Measurable (s : List Float) (b : RadialBand) (p : Piece) (ends : Ends) : Type 0 where
-  pub vertices : 3 ≤ count s
-  pub known : ends ≡ ends_of b p
+abbrev pub part : Piece → Cross → Part
+part p left = record { piece = p; left = left }
 
--- the first n pieces of the flat array of start and end, the last one first
-unfoldable pub pieces : List Float → ℕ → List Piece
-pieces w zero = []
-pieces w (suc n) = piece (get_or w (2 * n) nan) (get_or w (2 * n + 1) nan) ∷ pieces w n
+-- past the end of the array
+abbrev pub nowhere : Cross
+nowhere = record { rho = nan; span = span nan nan }
 
--- in the array w, of 54 pieces, the first n wait, and they are ps
-pub record Waits (ps : List Piece) (w : List Float) (n : ℕ) : Type 0 where
-  pub few : n ≤ 54
-  pub stored : length w ≡ 108
-  pub are : pieces w n ≡ ps
+-- the whole width, and p's halves
+abbrev pub whole : RadialBand → Part
+whole b = let p = whole_width b in part p (cross_at b p.z0)
 
--- p waits above the first n, and r counts it
-pub record Pushed (p : Piece) (n : ℕ) (before after : List Float) (r : ℕ) : Type 0 where
-  pub count : r ≡ n + 1
-  pub waits : Waits (p ∷ pieces before n) after r
+abbrev pub left_half : Part → Part
+left_half p = part (piece p.piece.z0 (mean p.piece.z0 p.piece.z1)) p.left
 
--- n pieces wait, and two more may if a piece is halved
-pub record HalvesRoom (halve : Bool) (w : List Float) (n : ℕ) : Type 0 where
-  pub few : n ≤ 54
-  pub both : halve ≡ true → n + 2 ≤ 54
-  pub stored : length w ≡ 108
+abbrev pub right_half : RadialBand → Part → Part
+right_half b p = let m = mean p.piece.z0 p.piece.z1 in part (piece m p.piece.z1) (cross_at b m)
 
--- ---- what is kept of the ends of pieces that wait
+-- the first n of the flat array of start and end, each with its left end, the last one first
+unfoldable pub stacked : List Float → List Cross → ℕ → List Part
+stacked w ls zero = []
+stacked w ls (suc n) = part (piece (get_or w (2 * n) nan) (get_or w (2 * n + 1) nan)) (get_or ls n nowhere) ∷ stacked w ls n
 
--- at place k of the flat array of half width and span
-abbrev pub kept : List Float → ℕ → Cross
-kept w k = record { rho = get_or w (3 * k) nan; span = span (get_or w (3 * k + 1) nan) (get_or w (3 * k + 2) nan) }
+abbrev pub pieces : List Part → List Piece
+pieces = map (λ (p : Part). p.piece)
 
--- x is kept at place k, and what stands below stays
-pub record Keeps (x : Cross) (k : ℕ) (before after : List Float) : Type 0 where
-  pub stored : length after ≡ 162
-  pub here : kept after k ≡ x
-  pub below : (j : ℕ) → j < k → kept after j ≡ kept before j
-
--- the pieces lie end to end, from z down, and what is known at their left ends is kept in w
-unfoldable pub Chain : RadialBand → List Float → Float → List Piece → Type 0
-Chain b w z [] = Unit {0}
-Chain b w z (p ∷ ps) = (p.z1 ≡ z) × ((kept w (length ps) ≡ cross_at b p.z0) × Chain b w p.z0 ps)
-
--- of the pieces that wait: both ends of the one taken next are known, and the left ends of those below are kept in w
-unfoldable pub Known : RadialBand → List Float → Ends → List Piece → Type 0
-Known b w ends [] = Unit {0}
-Known b w ends (p ∷ ps) = (ends ≡ ends_of b p) × Chain b w p.z0 ps
-
--- piece p, above n others, has gone through: what is known of those that then wait
-pub record NextKnown (b : RadialBand) (p : Piece) (halve : Bool) (n : ℕ) (ends : Ends) (before after : List Float)
-    (r : Ends) : Type 0 where
-  pub stored : length after ≡ 162
-  pub known : (ps : List Piece) → length ps ≡ n → Known b before ends (p ∷ ps)
-      → Known b after r (cond halve (halves p ps) ps)
+-- right is known where the first one ends, and where each one starts the next one ends
+abbrev pub Known : RadialBand → Cross → List Part → Type 0
+Known b right [] = Unit {0}
+Known b right (p ∷ ps) = (right ≡ cross_at b p.piece.z1) × (p.left ≡ cross_at b p.piece.z0) × Known b p.left ps

@@ -2,12 +2,10 @@
 ghost use Rattle.std.specs.Prelude.{◌≡◌};
 ghost use Rattle.walk.specs.pieces.Pieces as pieces;
 ghost use Rattle.walk.specs.pieces.Pieces.{box_of, variation_of};
-ghost use Rattle.walk.specs.pieces.Steps.{measure, Measurable};
 
-use super::ends::spans_of;
-use super::shapes::{Ends, Measured, Piece, Spans};
+use super::shapes::{Piece, Spans};
 use crate::bands::RadialBand;
-use section::{Aabb, box_distance_near};
+use section::Aabb;
 
 pub fn whole_width(b: RadialBand) -> Piece
     ensures { result ≡ pieces.whole_width b }
@@ -18,7 +16,7 @@ pub fn whole_width(b: RadialBand) -> Piece
     }
 }
 
-fn box_of(p: Piece, spans: Spans) -> Aabb
+pub fn box_of(p: Piece, spans: Spans) -> Aabb
     ensures { result ≡ box_of p spans }
 {
     let w = spans.widest;
@@ -31,7 +29,7 @@ fn box_of(p: Piece, spans: Spans) -> Aabb
     }
 }
 
-fn variation_of(spans: Spans) -> f64
+pub fn variation_of(spans: Spans) -> f64
     ensures { result ≡ variation_of spans }
 {
     let w = spans.widest;
@@ -39,17 +37,4 @@ fn variation_of(spans: Spans) -> f64
     let lower = arith::max(w.lo, n.lo) - arith::min(w.lo, n.lo);
     let upper = arith::max(w.hi, n.hi) - arith::min(n.hi, w.hi);
     arith::max(arith::max(lower, upper), 0.0)
-}
-
-// The distance of the piece's box, and the piece's variation.
-pub fn measure(s: &[f64], b: RadialBand, p: Piece, ends: Ends, hint: usize) -> Measured
-    requires { Measurable s.now b p ends }
-    ensures { result ≡ measure s.now b p }
-{
-    let spans = spans_of(b, p, ends);
-    let hit = box_distance_near(s, box_of(p, spans), hint);
-    Measured {
-        hit,
-        variation: variation_of(spans),
-    }
 }

@@ -23,12 +23,11 @@ pub struct Cross {
     pub span: Span,
 }
 
-// Half width and span at a piece's two ends, and at the axis.
+// A piece that waits, with what is known at its left end.
 #[derive(Clone, Copy)]
-pub struct Ends {
+pub struct Part {
+    pub piece: Piece,
     pub left: Cross,
-    pub right: Cross,
-    pub middle: Cross,
 }
 
 // The distance of a piece's box, and the piece's variation.

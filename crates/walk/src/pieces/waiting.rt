@@ -1,33 +1,89 @@
-// The pieces that wait, in a flat array of start and end, and the halves that join them.
-ghost use Rattle.std.specs.Prelude.{◌≡◌, cond, ◌<◌, length};
-ghost use Rattle.walk.specs.pieces.Pieces.{halves};
-ghost use Rattle.walk.specs.pieces.Steps.{pieces, Pushed, HalvesRoom, Waits};
+// The pieces that wait, the one taken next on top.
+ghost use Rattle.std.specs.Prelude.{◌≡◌, ◌+◌, ◌<◌, ◌≤◌, List, [], ◌∷◌, length, MatchOption};
+ghost use Rattle.walk.specs.declared.pieces.shapes.Part.{Part};
+ghost use Rattle.walk.specs.pieces.Steps.{left_half, right_half, stacked};
 
-use super::shapes::Piece;
+use super::ends::cross_at;
+use super::shapes::{Cross, Part, Piece};
+use crate::bands::{RadialBand, Span};
+use std::marker::Model;
 
-// Piece p waits above the first n; the number that then wait.
-pub fn push(waiting: &mut [f64; 108], n: usize, p: Piece) -> usize
-    requires { (n < 54) × (length waiting.old ≡ 108) }
-    ensures { Pushed p n waiting.old waiting.new result }
-{
-    let at = 2 * n;
-    waiting[at] = p.z0;
-    waiting[at + 1] = p.z1;
-    n + 1
+// What stands at a left end before a piece waits there; nothing reads it.
+const NOWHERE: Cross = Cross {
+    rho: 0.0,
+    span: Span { lo: 0.0, hi: 0.0 },
+};
+
+// Start and end of each piece in turn, a flat array as 01 names it, and what is known at each left end.
+#[derive(Drop)]
+pub struct Waiting {
+    pieces: [f64; 108],
+    lefts: [Cross; 54],
+    count: usize,
 }
 
-// Both halves of p wait above the first n, the left one first, if p is halved.
-pub fn push_halves(waiting: &mut [f64; 108], n: usize, p: Piece, halve: bool) -> usize
-    requires { HalvesRoom halve waiting.old n }
-    ensures { let ps = pieces waiting.old n in
-        Waits (cond halve (halves p ps) ps) waiting.new result }
-{
-    if halve {
-        let mid = (p.z0 + p.z1) * 0.5;
-        let left = Piece { z0: p.z0, z1: mid };
-        let right = Piece { z0: mid, z1: p.z1 };
-        let above = push(waiting, n, left);
-        return push(waiting, above, right);
+impl Model for Waiting {
+    ghost Value = { List Part };
+
+    ghost view = { λ w. stacked w.pieces w.lefts w.count };
+
+    ghost invariant = { λ w. (w.count ≤ 54) × (length w.pieces ≡ 108) × (length w.lefts ≡ 54) };
+}
+
+impl Waiting {
+    pub fn new() -> Waiting
+        ensures { result ≡ [] }
+    {
+        Waiting {
+            pieces: [0.0; 108],
+            lefts: [NOWHERE; 54],
+            count: 0,
+        }
     }
-    n
+
+    pub fn len(&self) -> usize
+        ensures { result ≡ length self.now }
+    {
+        self.count
+    }
+
+    pub fn push(&mut self, p: Part)
+        requires { length self.old < 54 }
+        ensures { self.new ≡ p ∷ self.old }
+    {
+        let at = self.count;
+        self.pieces[2 * at] = p.piece.z0;
+        self.pieces[2 * at + 1] = p.piece.z1;
+        self.lefts[at] = p.left;
+        self.count = at + 1;
+    }
+
+    pub fn pop(&mut self) -> Option<Part>
+        ensures { MatchOption result (self.old ≡ []) (λ p. self.old ≡ p ∷ self.new) }
+    {
+        if self.count == 0 {
+            return None;
+        }
+        let at = self.count - 1;
+        self.count = at;
+        let piece = Piece {
+            z0: self.pieces[2 * at],
+            z1: self.pieces[2 * at + 1],
+        };
+        Some(Part {
+            piece,
+            left: self.lefts[at],
+        })
+    }
+
+    // Both halves of p wait, the left one first, so that the right one is taken next.
+    pub fn push_halves(&mut self, b: RadialBand, p: Part)
+        requires { length self.old + 2 ≤ 54 }
+        ensures { self.new ≡ right_half b p ∷ left_half p ∷ self.old }
+    {
+        let left = p.left_half();
+        let right = p.right_half(b);
+        self.push(left);
+        self.push(right);
+    }
 }

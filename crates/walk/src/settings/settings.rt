@@ -1,9 +1,11 @@
 // The finest settings, and number 18.
 ghost use Rattle.std.specs.Prelude.{◌≡◌};
+ghost use Rattle.section.specs.profile.Numbers.{refused_by};
 ghost use Rattle.section.specs.profile.Refusals.{refusal};
 ghost use Rattle.walk.specs.settings.Settings as settings;
 
 use super::shapes::Settings;
+use section::Refusal;
 
 // Those of every call that takes none.
 pub fn finest() -> Settings
@@ -17,28 +19,15 @@ pub fn finest() -> Settings
 }
 
 // Number 18: a setting is out of range or not finite.
-pub fn settings_refusal(t: Settings) -> u32
-    ensures { result ≡ refusal (settings.settings_tests t) }
+#[tactic(auto, unfolding(section::specs::profile::Refusals::refusal))]
+pub fn settings_refusal(t: Settings) -> Result<(), Refusal>
+    ensures { refused_by result ≡ refusal (settings.settings_tests t) }
 {
-    let tolerance = t.tolerance;
-    let most = t.most;
-    let intervals = t.intervals;
-    if tolerance >= 1e-9 {
-        if tolerance <= 1.0 {
-            if most < 1 {
-                return 18;
-            }
-            if 8192 < most {
-                return 18;
-            }
-            if intervals < 1 {
-                return 18;
-            }
-            if 64 < intervals {
-                return 18;
-            }
-            return 0;
-        }
+    if !(t.tolerance >= 1e-9 && t.tolerance <= 1.0) {
+        return Err(Refusal::BadSettings);
     }
-    18
+    if t.most < 1 || 8192 < t.most || t.intervals < 1 || 64 < t.intervals {
+        return Err(Refusal::BadSettings);
+    }
+    Ok(())
 }

@@ -1,13 +1,14 @@
 // The walk over the pieces of a cylinder across the spindle.
-ghost use Rattle.std.specs.Prelude.{◌≡◌, true, false, ◌&&◌, ◌≤◌, max};
+ghost use Rattle.std.specs.Prelude.{◌≡◌, ◌&&◌, ◌<◌, ◌≤◌};
 ghost use Rattle.arith.specs.F64.{◌≺◌};
-ghost use Rattle.section.specs.profile.Vertices.{count, hit};
+ghost use Rattle.section.specs.profile.Vertices.{count};
 ghost use Rattle.section.specs.boxes.Boxes.{box_distance};
 ghost use Rattle.walk.specs.Walk as walk;
-ghost use Rattle.walk.specs.Steps.{Walkable, WalkableWith};
+ghost use Rattle.walk.specs.Steps as steps;
+ghost use Rattle.walk.specs.Steps.{WalkableWith};
 
 use crate::bands::RadialBand;
-use crate::pieces::{Measured, Piece, ends_of, measure, next_ends, push, push_halves, whole_width};
+use crate::pieces::{Measured, Part, Piece, Slab, Waiting, cross_at};
 use crate::settings::Settings;
 use crate::{CountedHit, sampled};
 use section::{Aabb, CollisionHit, box_distance, nearer_of};
@@ -48,75 +49,103 @@ fn halved(tol: f64, m: Measured, best: CollisionHit, p: Piece) -> bool
     both_above(tol, m.variation, p.z1 - p.z0)
 }
 
-// What is reported of a walk that is cut: the least box distance, with the witness of the best.
-fn cut_off(least: f64, best: CollisionHit, boxes: usize, most: usize) -> CountedHit
-    ensures { result ≡ record { hit = hit least best.witness; boxes = boxes; waiting = most; cut = true } }
-{
-    let witness = best.witness;
-    CountedHit {
-        hit: CollisionHit {
-            distance: least,
-            witness,
-        },
-        boxes,
-        waiting: most,
-        cut: true,
-    }
+// What a walk has so far: the best distance with its witness, the least box distance, how many boxes were measured, and the most
+// pieces that waited at any one time.
+#[derive(Clone, Copy)]
+struct SoFar {
+    best: CollisionHit,
+    least: f64,
+    boxes: usize,
+    most: usize,
 }
 
-// What is reported of one that ends.
-fn uncut(best: CollisionHit, boxes: usize, most: usize) -> CountedHit
-    ensures { result ≡ record { hit = best; boxes = boxes; waiting = most; cut = false } }
-{
-    CountedHit {
-        hit: best,
-        boxes,
-        waiting: most,
-        cut: false,
-    }
-}
-
-fn larger(a: usize, b: usize) -> usize
-    ensures { result ≡ max a b }
-{
-    if a < b { b } else { a }
-}
-
-// A walk with this tolerance, at most cap boxes and this number of sample intervals.
-fn walk_with(s: &[f64], b: RadialBand, tol: f64, cap: usize, intervals: usize) -> CountedHit
-    requires { Walkable s.now b tol cap intervals }
-    ensures { result ≡ walk.walked (walk.walk_all s.now b tol cap intervals) }
-{
-    let mut waiting = [0.0; 108];
-    let whole = whole_width(b);
-    let mut n = push(&mut waiting, 0, whole);
-    let mut lefts = [0.0; 162];
-    let mut ends = ends_of(b, whole);
-    let mut best = sampled(s, b, intervals);
-    let mut least = arith::infinity();
-    let mut boxes: usize = 0;
-    let mut most: usize = 1;
-    let mut hint = best.witness.edge;
-    while n > 0 {
-        if boxes == cap {
-            return cut_off(least, best, boxes, most);
+impl SoFar {
+    // One piece waits, and no box is measured.
+    fn start(best: CollisionHit) -> SoFar
+        ensures { result ≡ steps.start best }
+    {
+        SoFar {
+            best,
+            least: arith::infinity(),
+            boxes: 0,
+            most: 1,
         }
-        let last = n - 1;
-        let at = 2 * last;
-        let z0 = waiting[at];
-        let z1 = waiting[at + 1];
-        let p = Piece { z0, z1 };
-        let m = measure(s, b, p, ends, hint);
-        let halve = halved(tol, m, best, p);
-        n = push_halves(&mut waiting, last, p, halve);
-        ends = next_ends(&mut lefts, last, b, p, ends, halve);
-        best = better(m, best);
-        least = arith::min(least, m.hit.distance);
-        boxes += 1;
-        most = larger(most, n);
+    }
+
+    // One box more, after which this many pieces wait.
+    fn count(&mut self, m: Measured, waiting: usize)
+        requires { self.old.boxes < usize.MAX }
+        ensures { self.new ≡ steps.count m waiting self.old }
+    {
+        self.best = better(m, self.best);
+        self.least = arith::min(self.least, m.hit.distance);
+        self.boxes += 1;
+        self.most = self.most.max(waiting);
+    }
+
+    // What is reported of a walk that is cut: the least box distance, with the witness of the best.
+    fn cut_off(self) -> CountedHit
+        ensures { result ≡ steps.cut_off self }
+    {
+        let best = self.best;
+        let witness = best.witness;
+        CountedHit {
+            hit: CollisionHit {
+                distance: self.least,
+                witness,
+            },
+            boxes: self.boxes,
+            waiting: self.most,
+            cut: true,
+        }
+    }
+
+    // What is reported of one that ends.
+    fn uncut(self) -> CountedHit
+        ensures { result ≡ steps.uncut self }
+    {
+        CountedHit {
+            hit: self.best,
+            boxes: self.boxes,
+            waiting: self.most,
+            cut: false,
+        }
+    }
+}
+
+// A walk at these settings: its tolerance, its most boxes, its number of sample intervals.
+fn walk_with(s: &[f64], b: RadialBand, t: Settings) -> CountedHit
+    requires { WalkableWith s.now b t }
+    ensures { result ≡ walk.walked (walk.walk_with s.now b t) }
+{
+    let whole = Part::whole(b);
+    let mut right = cross_at(b, whole.piece.z1);
+    let middle = cross_at(b, b.zc);
+    let mut waiting = Waiting::new();
+    waiting.push(whole);
+    let cap = t.most as usize;
+    let mut so_far = SoFar::start(sampled(s, b, t.intervals as usize));
+    let mut hint = so_far.best.witness.edge;
+    while let Some(part) = waiting.pop() {
+        if so_far.boxes == cap {
+            return so_far.cut_off();
+        }
+        let slab = Slab {
+            band: b,
+            part,
+            right,
+            middle,
+        };
+        let m = slab.measure(s, hint);
+        if halved(t.tolerance, m, so_far.best, part.piece) {
+            waiting.push_halves(b, part);
+        } else {
+            right = part.left;
+        }
+        so_far.count(m, waiting.len());
         hint = m.hit.witness.edge;
     }
-    uncut(best, boxes, most)
+    so_far.uncut()
 }
 
 // One box, nothing waiting, uncut.
@@ -152,5 +181,5 @@ pub fn band_distance(s: &[f64], b: RadialBand, t: Settings) -> CountedHit
     if b.radius <= 1e-15 {
         return one_box(s, thin_box(b));
     }
-    walk_with(s, b, t.tolerance, t.most as usize, t.intervals as usize)
+    walk_with(s, b, t)
 }

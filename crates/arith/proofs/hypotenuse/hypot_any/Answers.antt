@@ -1,64 +1,46 @@
--- `arith::hypotenuse::hypot_any` meets its contract.
-use Rattle.std.proofs.Common.{◌≡◌, true, T, sym, subst, le_refl}
-use lib.Ieee.{Float, binary64, fits}
-use Rattle.arith.proofs.roots.Root.HypotValue.{hypot_by_bits, inf_left, inf_right, nan_right, nan_left, nan_both}
-use Rattle.arith.proofs.roots.Pattern.Special.{no_nan, like_itself}
+-- `arith::hypotenuse::hypot_any` meets its contract: what an infinity or a NaN gives, and the bits of the rest.
+use Rattle.std.proofs.Common.{◌≡◌, true, false, not, T, sym, ◌∙◌, subst}
+use lib.Ieee.{Float, binary64, fits, is_nan}
+use Rattle.arith.proofs.roots.Root.HypotCore.{infinity}
+use Rattle.arith.proofs.roots.Root.HypotValue.{finite, hypot_by_bits, infinite_left, infinite_right, nan_left, nan_right}
+use Rattle.arith.proofs.roots.Root.SqrtValue.{none}
+use Rattle.arith.proofs.roots.Pattern.Special.{no_nan}
 use Rattle.arith.proofs.hypotenuse.hypot_any.Goals as goal
+use Rattle.arith.proofs.hypotenuse.hypot_any.Goals.{then-is_infinite-via-then-is_infinite, then-is_infinite-via-else-is_infinite+then-is_infinite-2, then-is_nan-via-then-is_nan, then-is_nan-via-else-is_nan+then-is_nan-2}
 
 held : (x : Float) → fits binary64 x ≡ true → T (fits binary64 x)
 held x h = subst T (sym h) tt
 
-pub float_to_bits-ua : goal.float_to_bits-ua
-float_to_bits-ua c = like_itself _ c.if-a.true
+a_number : (x : Float) → is_nan x ≡ false → T (not (is_nan x))
+a_number x h = subst (λ b. T (not b)) (sym h) tt
 
-pub float_to_bits-ub : goal.float_to_bits-ub
-float_to_bits-ub c = like_itself _ c.if-b.true
+pub returns-then-is_infinite : goal.returns-then-is_infinite
+returns-then-is_infinite c = infinity ∙ elim c.then-is_infinite.branch [
+  | then-is_infinite-via-then-is_infinite w ↦ infinite_left _ _ (sym c.is_infinite.ensures.value ∙ w.if-is_infinite.true)
+  | then-is_infinite-via-else-is_infinite+then-is_infinite-2 w ↦ infinite_right _ _
+      (sym w.is_infinite-else-is_infinite.ensures.value ∙ w.if-is_infinite-2.true)
+]
+
+pub returns-then-is_nan : goal.returns-then-is_nan
+returns-then-is_nan c = none ∙ elim c.then-is_nan.branch [
+  | then-is_nan-via-then-is_nan w ↦ nan_left _ _ (sym c.is_infinite-else-is_infinite.ensures.value ∙ c.if-is_infinite-2.false)
+      (sym c.is_nan.ensures.value ∙ w.if-is_nan.true)
+  | then-is_nan-via-else-is_nan+then-is_nan-2 w ↦ nan_right _ _ (sym c.is_infinite.ensures.value ∙ c.if-is_infinite.false)
+      (sym w.is_nan-else-is_nan.ensures.value ∙ w.if-is_nan-2.true)
+]
+
+pub hypot_bits-requires : goal.hypot_bits-requires
+hypot_bits-requires c = (
+  finite _ (held _ c.well_formed.0.1) (sym c.is_infinite.ensures.value ∙ c.if-is_infinite.false)
+      (a_number _ (sym c.is_nan.ensures.value ∙ c.if-is_nan.false)),
+  finite _ (held _ c.well_formed.1.0.1) (sym c.is_infinite-else-is_infinite.ensures.value ∙ c.if-is_infinite-2.false)
+      (a_number _ (sym c.is_nan-else-is_nan.ensures.value ∙ c.if-is_nan-2.false)),
+)
 
 pub float_from_bits-result : goal.float_from_bits-result
 float_from_bits-result c = no_nan _ c.hypot_bits.ensures.fine
 
-pub returns-then-ub-lt-INF : goal.returns-then-ub-lt-INF
-returns-then-ub-lt-INF c = hypot_by_bits _ _ _ (held _ c.well_formed.0.1)
-    (held _ c.well_formed.1.0.1) c.if-ua-lt-INF.true
-    c.if-ub-lt-INF.true c.hypot_bits.ensures
-
-pub float_from_bits-result-then-ua-lt-INF : goal.float_from_bits-result-then-ua-lt-INF
-float_from_bits-result-then-ua-lt-INF c = no_nan 9218868437227405312 (le_refl 9218868437227405312)
-
-pub returns-then-ua-lt-INF : goal.returns-then-ua-lt-INF
-returns-then-ua-lt-INF c = inf_right _ _ (held _ c.well_formed.1.0.1)
-    (like_itself _ c.if-b.true) c.if-ub-lt-INF.false
-
-pub float_from_bits-result-then-b : goal.float_from_bits-result-then-b
-float_from_bits-result-then-b c = no_nan 9218868437227405312 (le_refl 9218868437227405312)
-
-pub returns-then-b : goal.returns-then-b
-returns-then-b c = inf_left _ _ (held _ c.well_formed.0.1)
-    (like_itself _ c.if-a.true) c.if-ua-lt-INF.false
-
-pub returns-then-ua-lt-INF-2 : goal.returns-then-ua-lt-INF-2
-returns-then-ua-lt-INF-2 c = nan_right _ _ (held _ c.well_formed.0.1) c.if-ua-lt-INF-2.true c.if-b.false
-
-pub float_from_bits-result-then-a : goal.float_from_bits-result-then-a
-float_from_bits-result-then-a c = no_nan 9218868437227405312 (le_refl 9218868437227405312)
-
-pub returns-then-a : goal.returns-then-a
-returns-then-a c = inf_left _ _ (held _ c.well_formed.0.1)
-    (like_itself _ c.if-a.true) c.if-ua-lt-INF-2.false
-
-pub float_to_bits-ub-then-b-2 : goal.float_to_bits-ub-then-b-2
-float_to_bits-ub-then-b-2 c = like_itself _ c.if-b-2.true
-
-pub returns-then-ub-lt-INF-2 : goal.returns-then-ub-lt-INF-2
-returns-then-ub-lt-INF-2 c = nan_left _ _ (held _ c.well_formed.1.0.1) c.if-ub-lt-INF-2.true
-    c.if-a.false
-
-pub float_from_bits-result-then-b-2 : goal.float_from_bits-result-then-b-2
-float_from_bits-result-then-b-2 c = no_nan 9218868437227405312 (le_refl 9218868437227405312)
-
-pub returns-then-b-2 : goal.returns-then-b-2
-returns-then-b-2 c = inf_right _ _ (held _ c.well_formed.1.0.1) (like_itself _ c.if-b-2.true)
-    c.if-ub-lt-INF-2.false
-
 pub returns : goal.returns
-returns c = nan_both _ _ c.if-a.false c.if-b-2.false
+returns c =
+    let r = hypot_bits-requires c.before in
+    hypot_by_bits _ _ _ (held _ c.well_formed.0.1) (held _ c.well_formed.1.0.1) r.0 r.1 c.hypot_bits.ensures

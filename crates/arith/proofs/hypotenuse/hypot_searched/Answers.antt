@@ -1,6 +1,6 @@
 -- `arith::hypotenuse::hypot_searched`. 27 binades apart the larger operand is the root; nearer, the candidate that the search finds is its bits, or infinity's.
 use Rattle.std.proofs.Common.{◌≡◌, ℕ, zero, suc, ◌<◌, refl, zero-lt-suc, rules}
-use Rattle.arith.proofs.roots.Root.HypotCore.{any_far, any_shift, any_law, nothing, within, over}
+use Rattle.arith.proofs.roots.Root.HypotCore.{any_far, any_shift, any_law, capped, nothing}
 use Rattle.arith.proofs.hypotenuse.hypot_searched.Goals as goal
 
 positive : (n : ℕ) → (n ≡ 0 → ⊥) → 0 < n
@@ -19,19 +19,8 @@ hypot_significand-s-requires c =
     let s = any_shift _ _ _ _ c.exponent-eb.ensures
     c.exponent-es.ensures c.requires.ordered in
     let p = positive _ c.if-big-eq0.false in
-    let q = c.sticky-t.ensures.bit in
     search rules
 
-pub returns-then-r-lt-INF : goal.returns-then-r-lt-INF
-returns-then-r-lt-INF c = within _ _ _ (any_law _ _ _ _ _ _ c.exponent-eb.ensures
-    c.exponent-es.ensures
-    c.requires.ordered
-    (positive _ c.if-big-eq0.false) c.sticky-t.ensures
-    c.hypot_significand-s.ensures) c.if-r-lt-INF.true
-
-pub returns-else-r-lt-INF : goal.returns-else-r-lt-INF
-returns-else-r-lt-INF c = over _ _ _ (any_law _ _ _ _ _ _ c.exponent-eb.ensures
-    c.exponent-es.ensures
-    c.requires.ordered
-    (positive _ c.if-big-eq0.false) c.sticky-t.ensures
-    c.hypot_significand-s.ensures) c.if-r-lt-INF.false
+pub returns : goal.returns
+returns c = rw c.min.ensures (capped _ _ _ (any_law _ _ _ _ _ _ c.exponent-eb.ensures c.exponent-es.ensures
+    c.requires.ordered (positive _ c.if-big-eq0.false) c.sticky-t.ensures c.hypot_significand-s.ensures))

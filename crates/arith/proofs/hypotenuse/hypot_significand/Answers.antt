@@ -1,7 +1,8 @@
 -- `arith::hypotenuse::hypot_significand`. The root lies between the larger operand and its double, so that the bisection's two ends round as it asks.
 use Rattle.std.proofs.Common.{◌≡◌, ℕ, ◌+◌, ◌-◌, ◌*◌, ◌/◌, ◌^◌, ◌<◌, ◌≤◌, sym, ap, ◌∙◌, subst, le_trans, le_of_eq, le_of_lt, mul-le-mul, mul-le-mul_left, arith, pow-add, rules}
 use native.Mathlib.Nat.{div-le_of_le-mul}
-use Rattle.arith.specs.roots.Steps.{whole, RoundsDownAt, RoundsUp, RoundsDown, Rounded}
+use Rattle.std.specs.Int.{from_bool}
+use Rattle.arith.specs.roots.Steps.{whole, RoundsDownAt, RoundsUp, RoundsDown}
 use Rattle.arith.proofs.hypotenuse.hypot_significand.Goals as goal
 
 up_at : (z t n : ℕ) → n < 2 ^ 53 → 4 * ((n + 1) * (n + 1)) ≤ z → RoundsUp z t n
@@ -55,14 +56,9 @@ quotient a b d h =
 pub bisect-requires : goal.bisect-requires
 bisect-requires c =
     let q = quotient c.args.mb c.args.ms c.args.d (omega arith) in
-    let e = c.sum_of_squares-z.ensures.value in
-    let u = first (whole c.sum_of_squares-z.result) c.args.t c.args.mb (omega arith)
+    let e = c.sum_of_squares-z.ensures in
+    let u = first (whole c.sum_of_squares-z.result) (from_bool c.args.t) c.args.mb (omega arith)
     (omega arith) (omega arith) in
-    let v = last (whole c.sum_of_squares-z.result) c.args.t c.args.mb (omega arith)
+    let v = last (whole c.sum_of_squares-z.result) (from_bool c.args.t) c.args.mb (omega arith)
     (omega arith) in
     search rules
-
-pub returns : goal.returns
-returns c = subst (λ (x : ℕ). Rounded x c.args.t (c.args.mb - 1)
-    (c.args.mb + 2 ^ 52) c.bisect.result) c.sum_of_squares-z.ensures.value
-    c.bisect.ensures

@@ -1,8 +1,8 @@
--- `arith::order::infinity` meets its contract: IEEE 754's 1 / 0.
+-- `arith::order::infinity` meets its contract: the constant's bits are those of infinity.
 use Rattle.std.proofs.Common.{refl}
-use lib.Ieee.{of_bits, div}
+use lib.Ieee.{of_bits}
 use Rattle.arith.proofs.order.infinity.Goals as goal
 
 pub returns : goal.returns
-unfolding div of_bits
+unfolding of_bits
 returns c = refl

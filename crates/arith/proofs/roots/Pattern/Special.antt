@@ -19,7 +19,7 @@ pub no_nan : (n : ℕ) → n ≤ 2047 * 2 ^ 52 → T (not (nan_bits binary64 n))
 no_nan n h = subst (λ (b : Bool). T (not b)) (sym (nan_bits_above binary64 n))
     (le→nltb (2047 * 2 ^ 52) (n % 2 ^ 63) (low_part n h))
 
-is_nan_lem : (x : Float) → T (is_nan x) → x ≡ nan
+pub is_nan_lem : (x : Float) → T (is_nan x) → x ≡ nan
 unfolding is_nan
 is_nan_lem nan h = refl
 is_nan_lem (inf s) h = absurd h
@@ -69,15 +69,15 @@ sum_nan (fin s m e) = refl
 abbrev squares : Float → Float → Float
 squares x y = add binary64 (mul binary64 x x) (mul binary64 y y)
 
-pub squares_left : (x y : Float) → eq (squares x y) (squares x y) ≡ true → T (not (is_nan x))
-unfolding eq is_nan add mul
-squares_left nan y h = no h
+pub squares_left : (x y : Float) → is_nan (squares x y) ≡ false → T (not (is_nan x))
+unfolding is_nan add mul
+squares_left nan y h = yes h
 squares_left (inf s) y h = tt
 squares_left (fin s m e) y h = tt
 
-pub squares_right : (x y : Float) → eq (squares x y) (squares x y) ≡ true → T (not (is_nan y))
-unfolding eq is_nan mul
-squares_right x nan h = no (subst (λ (z : Float). eq z z ≡ true) (sum_nan (mul binary64 x x)) h)
+pub squares_right : (x y : Float) → is_nan (squares x y) ≡ false → T (not (is_nan y))
+unfolding is_nan mul
+squares_right x nan h = yes (subst (λ (z : Float). is_nan z ≡ false) (sum_nan (mul binary64 x x)) h)
 squares_right x (inf s) h = tt
 squares_right x (fin s m e) h = tt
 

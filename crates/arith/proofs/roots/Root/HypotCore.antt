@@ -1,11 +1,13 @@
 -- What the integer core finds of two significands is the bits of the hypotenuse.
-use Rattle.std.proofs.Common.{◌≡◌, ℕ, zero, suc, ◌+◌, ◌-◌, ◌*◌, ◌/◌, ◌%◌, ◌^◌, ◌<◌, ◌≤◌, false, sym, refl, ap, ◌∙◌, subst, inl, inr, zero-le, le_trans, le_of_eq, le_refl, lt_of_lt_of_le, lt_of_le_of_lt, le_of_lt, mul-le-mul_right, zero-lt-suc, div-lt_iff_lt-mul, mul-le-mul, add_comm, mul-le-mul_left, mul-lt-mul_of_pos_right, mul-pos, mul-one, arith, pow_pos, pow_mono}
+use Rattle.std.proofs.Common.{◌≡◌, ℕ, zero, suc, ◌+◌, ◌-◌, ◌*◌, ◌/◌, ◌%◌, ◌^◌, ◌<◌, ◌≤◌, min, max, Bool, true, false, lt_irrefl, sym, refl, ap, ◌∙◌, subst, inl, inr, zero-le, le_trans, le_of_eq, le_refl, lt_of_lt_of_le, lt_of_le_of_lt, le_of_lt, mul-le-mul_right, zero-lt-suc, div-lt_iff_lt-mul, mul-le-mul, add_comm, mul-le-mul_left, mul-lt-mul_of_pos_right, mul-pos, mul-one, arith, pow_pos, pow_mono}
+use Rattle.std.proofs.Math.Nat.{max-eq_left, max-eq_right, min-eq_left, min-eq_right}
+use Rattle.std.specs.Int.{from_bool}
 use lib.Ieee.{binary64, inf, of_bits}
 use Rattle.arith.proofs.roots.Numbers.{decide}
 use Rattle.arith.proofs.roots.Root.Bracket.{Bracket, bracket, found, four_hyp, four_hyp_top, hyp, root_near, RootIs}
 use Rattle.arith.proofs.roots.Root.Bracket.{square_hyp, square_hyp_top}
 use Rattle.arith.proofs.roots.Root.Inside.{inside_hi, inside_lo, near_inside, pred}
-use Rattle.arith.specs.roots.Steps.{exponent_of, HypotIs, NearestHalf, Operands, Picks, Rounded, Scaled, significand_of}
+use Rattle.arith.specs.roots.Steps.{exponent_of, HypotIs, NearestHalf, Operands, Rounded, Scaled, significand_of}
 use Rattle.arith.specs.roots.Steps.{sq, Sticky, ticks_of}
 use Rattle.arith.specs.roots.Roots.{root}
 
@@ -36,11 +38,17 @@ pub infinity : of_bits binary64 (2047 * 2 ^ 52) ≡ inf false
 unfolding of_bits
 infinity = refl
 
-pub within : (p q r : ℕ) → RootIs (sq (ticks_of p) + sq (ticks_of q)) r → r < 2047 * 2 ^ 52 → HypotIs p q r
+within : (p q r : ℕ) → RootIs (sq (ticks_of p) + sq (ticks_of q)) r → r < 2047 * 2 ^ 52 → HypotIs p q r
 within p q r h l = record { fine = le_of_lt l; is = h.in_range l }
 
-pub over : (p q r : ℕ) → RootIs (sq (ticks_of p) + sq (ticks_of q)) r → 2047 * 2 ^ 52 ≤ r → HypotIs p q (2047 * 2 ^ 52)
+over : (p q r : ℕ) → RootIs (sq (ticks_of p) + sq (ticks_of q)) r → 2047 * 2 ^ 52 ≤ r → HypotIs p q (2047 * 2 ^ 52)
 over p q r h l = record { fine = le_refl (2047 * 2 ^ 52); is = h.beyond l ∙ sym infinity }
+
+pub capped : (p q r : ℕ) → RootIs (sq (ticks_of p) + sq (ticks_of q)) r → HypotIs p q (min r (2047 * 2 ^ 52))
+capped p q r h = elim (decide (2047 * 2 ^ 52) r) [
+  | inl l ↦ subst (λ (x : ℕ). HypotIs p q x) (sym (min-eq_right l)) (over p q r h l)
+  | inr l ↦ subst (λ (x : ℕ). HypotIs p q x) (sym (min-eq_left (le_of_lt l))) (within p q r h l)
+]
 
 at_zero : root binary64 (sq (ticks_of 0) + sq (ticks_of 0)) ≡ of_bits binary64 0
 unfolding ticks_of root of_bits
@@ -82,12 +90,17 @@ module _ (p q d : ℕ) (gap : exponent_of p ≡ d + exponent_of q) where
       (2 ^ exponent_of p) (pow_pos (2 * d)) (mul-pos (pow_pos (exponent_of q)) (pow_pos (exponent_of q))) n_four
       (ap (λ (x : ℕ). sq (2 ^ x)) gap ∙ square_hyp d (exponent_of q)) t x y
 
-  pub search_law : (t r : ℕ) → 0 < p → Sticky (significand_of q) d t
-      → Rounded (sq (2 * significand_of p) + sq (2 * significand_of q) / 2 ^ (2 * d)) t (significand_of p - 1)
+  told : (t : Bool) → Sticky (significand_of q) d t
+      → Bracket n (sq (2 * significand_of p) + sq (2 * significand_of q) / 2 ^ (2 * d)) (from_bool t) (2 ^ exponent_of p)
+  told true s = at 1 (λ e. absurd (omega arith)) (λ l. s.more refl)
+  told false s = at 0 (λ e. s.exact refl) (λ l. absurd (lt_irrefl 0 l))
+
+  pub search_law : (t : Bool) (r : ℕ) → 0 < p → Sticky (significand_of q) d t
+      → Rounded (sq (2 * significand_of p) + sq (2 * significand_of q) / 2 ^ (2 * d)) (from_bool t) (significand_of p - 1)
       (significand_of p + 2 ^ 52) r
       → RootIs (sq (ticks_of p) + sq (ticks_of q)) (exponent_of p * 2 ^ 52 + r)
-  search_law t r h s = found n (sq (2 * significand_of p) + sq (2 * significand_of q) / 2 ^ (2 * d)) t (exponent_of p)
-      (significand_of p) (at t s.exact s.more) (some p h) (short p) (normal p) big r
+  search_law t r h s = found n (sq (2 * significand_of p) + sq (2 * significand_of q) / 2 ^ (2 * d)) (from_bool t)
+      (exponent_of p) (significand_of p) (told t s) (some p h) (short p) (normal p) big r
 
   -- z and a bit, with (2 r - 1)^2 < z < (2 r + 1)^2: r steps
   inside : (z t E r : ℕ) → Bracket n z t (2 ^ E) → NearestHalf z r → 2 ^ 52 ≤ r → r ≤ 2 ^ 53
@@ -206,14 +219,14 @@ any_shift p q eb es e f h = subst (λ (x : ℕ). Shift p q x es) (sym e)
     (subst (λ (y : ℕ). Shift p q (exponent_of p) y) (sym f) (shifted_le p q (exponent_of p - exponent_of q) (gap_of p q h)
     h))
 
-abbrev AnyLaw : ℕ → ℕ → ℕ → ℕ → ℕ → ℕ → Type 0
+abbrev AnyLaw : ℕ → ℕ → Bool → ℕ → ℕ → ℕ → Type 0
 AnyLaw p q t r eb es =
     Sticky (q - es * 2 ^ 52) (eb - es) t
-    → Rounded (sq (2 * (p - eb * 2 ^ 52)) + sq (2 * (q - es * 2 ^ 52)) / 2 ^ (2 * (eb - es))) t (p - eb * 2 ^ 52 - 1)
+    → Rounded (sq (2 * (p - eb * 2 ^ 52)) + sq (2 * (q - es * 2 ^ 52)) / 2 ^ (2 * (eb - es))) (from_bool t) (p - eb * 2 ^ 52 - 1)
     (p - eb * 2 ^ 52 + 2 ^ 52) r
     → RootIs (sq (ticks_of p) + sq (ticks_of q)) (eb * 2 ^ 52 + r)
 
-pub any_law : (p q t r eb es : ℕ) → eb ≡ exponent_of p → es ≡ exponent_of q → q ≤ p → 0 < p → AnyLaw p q t r eb es
+pub any_law : (p q : ℕ) (t : Bool) (r eb es : ℕ) → eb ≡ exponent_of p → es ≡ exponent_of q → q ≤ p → 0 < p → AnyLaw p q t r eb es
 any_law p q t r eb es e f h l =
     subst (λ (x : ℕ). AnyLaw p q t r x es) (sym e)
     (subst (λ (y : ℕ). AnyLaw p q t r (exponent_of p) y) (sym f)
@@ -239,27 +252,23 @@ fast_binade p q s e a b r h t f g x y i m n = subst (λ (z : ℕ). HypotIs p q (
     (let w : p / 2 ^ 52 - 1 + (1 - s) ≡ e - 1 = omega (arith, h.at_least, h.ordered) in w)
     (fast_bits p q (1 - s) a b r h (omega arith) x y i m n)
 
-pub both_below : (a b p n : ℕ) → Picks a b b a p → p < n → (a < n) × (b < n)
-both_below a b p n x l = elim (decide b a) [
-  | inl h ↦ let u = x.not_less h in (omega arith, omega arith)
-  | inr h ↦ let u = x.less h in (omega arith, omega arith)
-]
-
-pub operands : (a b p q : ℕ) → a < 2047 * 2 ^ 52 → b < 2047 * 2 ^ 52 → Picks a b b a p → Picks a b a b q
-    → Operands 0 2047 p q
-operands a b p q i j x y = elim (decide b a) [
+-- ---- the larger and the smaller of two
+pub operands : (a b : ℕ) → a < 2047 * 2 ^ 52 → b < 2047 * 2 ^ 52 → Operands 0 2047 (max a b) (min a b)
+operands a b i j = elim (decide b a) [
   | inl h ↦
-      let u = x.not_less h in
-      let v = y.not_less h in
+      let u = max-eq_left h in
+      let v = min-eq_right h in
       record { at_least = zero-le; ordered = omega arith; fine = omega arith }
   | inr h ↦
-      let u = x.less h in
-      let v = y.less h in
+      let u = max-eq_right (le_of_lt h) in
+      let v = min-eq_left (le_of_lt h) in
       record { at_least = zero-le; ordered = omega arith; fine = omega arith }
 ]
 
-pub either_way : (a b p q r : ℕ) → Picks a b b a p → Picks a b a b q → HypotIs p q r → HypotIs a b r
-either_way a b p q r x y h = elim (decide b a) [
-  | inl l ↦ subst (λ (z : ℕ). HypotIs z b r) (x.not_less l) (subst (λ (z : ℕ). HypotIs p z r) (y.not_less l) h)
-  | inr l ↦ swap b a r (subst (λ (z : ℕ). HypotIs z a r) (x.less l) (subst (λ (z : ℕ). HypotIs p z r) (y.less l) h))
+pub either_way : (a b r : ℕ) → HypotIs (max a b) (min a b) r → HypotIs a b r
+either_way a b r h = elim (decide b a) [
+  | inl l ↦ subst (λ (z : ℕ). HypotIs z b r) (max-eq_left l) (subst (λ (z : ℕ). HypotIs (max a b) z r) (min-eq_right l) h)
+  | inr l ↦ swap b a r
+      (subst (λ (z : ℕ). HypotIs z a r) (max-eq_right (le_of_lt l))
+      (subst (λ (z : ℕ). HypotIs (max a b) z r) (min-eq_left (le_of_lt l)) h))
 ]

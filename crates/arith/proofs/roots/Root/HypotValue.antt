@@ -1,14 +1,15 @@
 -- What `hypot` of two values is, by their bits: finite, infinite, NaN.
-use Rattle.std.proofs.Common.{◌≡◌, ℕ, ◌+◌, ◌*◌, ◌/◌, ◌%◌, ◌^◌, ◌<◌, ◌≤◌, Bool, false, not, T, leb, sym, refl, ap, ◌∙◌, subst, inl, inr, mul-div_cancel, arith}
-use lib.Ieee.{binary64, div, down, eq, fin, fits, Float, inf, is_nan, nan, of_bits, of_fields, to_bits, up}
+use Rattle.std.proofs.Common.{◌≡◌, ℕ, ◌+◌, ◌*◌, ◌/◌, ◌%◌, ◌^◌, ◌<◌, ◌≤◌, Bool, false, not, T, leb, sym, refl, ap, ◌∙◌, subst, inl, inr, mul-div_cancel, arith, true}
+use Rattle.std.proofs.lemmas.Bool.{true≢false}
+use Rattle.std.specs.Float.{float_is_infinite}
+use lib.Ieee.{binary64, down, fin, fits, Float, inf, is_nan, nan, of_bits, of_fields, to_bits, up}
 use lib.Ieee.Bits.{of_bits-to_bits}
 use lib.Ieee.Exact.{HasValue}
 use lib.Ieee.Fits.{down_pos}
 use Rattle.arith.proofs.roots.Numbers.{decide}
 use Rattle.arith.proofs.roots.Pattern.Bits.{bits_val}
-use Rattle.arith.proofs.roots.Pattern.Special.{above_inf, unlike_itself}
-use Rattle.arith.proofs.roots.Root.HypotCore.{infinity, n, normal, short, ticks_of_is, whole}
-use Rattle.arith.proofs.roots.Root.SqrtValue.{none}
+use Rattle.arith.proofs.roots.Pattern.Special.{above_inf}
+use Rattle.arith.proofs.roots.Root.HypotCore.{n, normal, short, ticks_of_is, whole}
 use Rattle.arith.proofs.roots.Squares.{square}
 use Rattle.arith.specs.roots.Steps.{exponent_of, HypotIs, significand_of, sq, ticks_of}
 use Rattle.arith.specs.roots.Roots.{hypot, root}
@@ -59,7 +60,7 @@ contra : T (not (is_nan nan)) → ⊥
 unfolding is_nan
 contra h = h
 
-pub is_inf : (x : Float) → T (fits binary64 x) → T (not (is_nan x)) → 2047 * 2 ^ 52 ≤ to_bits binary64 x % 2 ^ 63
+is_inf : (x : Float) → T (fits binary64 x) → T (not (is_nan x)) → 2047 * 2 ^ 52 ≤ to_bits binary64 x % 2 ^ 63
     → x ≡ inf (leb (2 ^ 63) (to_bits binary64 x))
 is_inf x f n h = elim (decide (to_bits binary64 x % 2 ^ 63) (2047 * 2 ^ 52)) [
   | inl l ↦ sym (of_bits-to_bits binary64 x f) ∙ inf_bits (to_bits binary64 x)
@@ -68,57 +69,44 @@ is_inf x f n h = elim (decide (to_bits binary64 x % 2 ^ 63) (2047 * 2 ^ 52)) [
       (sym (of_bits-to_bits binary64 x f) ∙ above_inf (to_bits binary64 x) l) n))
 ]
 
-hypot_inf_left : (s : Bool) (y : Float) → hypot binary64 (inf s) y ≡ inf false
-unfolding hypot
-hypot_inf_left s y = refl
+-- an infinity wins over a NaN
+pub infinite_left : (x y : Float) → float_is_infinite x ≡ true → inf false ≡ hypot binary64 x y
+unfolding hypot float_is_infinite
+infinite_left (inf s) y h = refl
+infinite_left nan y h = absurd (true≢false (sym h))
+infinite_left (fin s m e) y h = absurd (true≢false (sym h))
 
-hypot_inf_right : (x : Float) (t : Bool) → hypot binary64 x (inf t) ≡ inf false
-unfolding hypot
-hypot_inf_right nan t = refl
-hypot_inf_right (inf s) t = refl
-hypot_inf_right (fin s m e) t = refl
+pub infinite_right : (x y : Float) → float_is_infinite y ≡ true → inf false ≡ hypot binary64 x y
+unfolding hypot float_is_infinite
+infinite_right nan (inf t) h = refl
+infinite_right (inf s) (inf t) h = refl
+infinite_right (fin s m e) (inf t) h = refl
+infinite_right x nan h = absurd (true≢false (sym h))
+infinite_right x (fin t n d) h = absurd (true≢false (sym h))
 
-pub inf_left : (x y : Float) → T (fits binary64 x) → T (not (is_nan x)) → 2047 * 2 ^ 52 ≤ to_bits binary64 x % 2 ^ 63
-    → of_bits binary64 (2047 * 2 ^ 52) ≡ hypot binary64 x y
-inf_left x y f n h = infinity ∙ sym (hypot_inf_left (leb (2 ^ 63) (to_bits binary64 x)) y) ∙ ap
-    (λ (z : Float). hypot binary64 z y) (sym (is_inf x f n h))
+pub nan_left : (x y : Float) → float_is_infinite y ≡ false → is_nan x ≡ true → nan ≡ hypot binary64 x y
+unfolding hypot float_is_infinite is_nan
+nan_left nan nan h n = refl
+nan_left nan (inf t) h n = absurd (true≢false h)
+nan_left nan (fin t m d) h n = refl
+nan_left (inf s) y h n = absurd (true≢false (sym n))
+nan_left (fin s m e) y h n = absurd (true≢false (sym n))
 
-pub inf_right : (x y : Float) → T (fits binary64 y) → T (not (is_nan y)) → 2047 * 2 ^ 52 ≤ to_bits binary64 y % 2 ^ 63
-    → of_bits binary64 (2047 * 2 ^ 52) ≡ hypot binary64 x y
-inf_right x y f n h = infinity ∙ sym (hypot_inf_right x (leb (2 ^ 63) (to_bits binary64 y))) ∙ ap
-    (λ (z : Float). hypot binary64 x z) (sym (is_inf y f n h))
+pub nan_right : (x y : Float) → float_is_infinite x ≡ false → is_nan y ≡ true → nan ≡ hypot binary64 x y
+unfolding hypot float_is_infinite is_nan
+nan_right nan nan h n = refl
+nan_right (inf s) nan h n = absurd (true≢false h)
+nan_right (fin s m e) nan h n = refl
+nan_right x (inf t) h n = absurd (true≢false (sym n))
+nan_right x (fin t m d) h n = absurd (true≢false (sym n))
 
-hypot_nan_right : (x : Float) (s : Bool) (a : ℕ) → HasValue x s a (2 ^ 1074) → hypot binary64 x nan ≡ nan
-unfolding hypot
-hypot_nan_right nan s a h = refl
-hypot_nan_right (inf t) s a h = absurd h
-hypot_nan_right (fin t m e) s a h = refl
-
-hypot_nan_left : (x : Float) (s : Bool) (a : ℕ) → HasValue x s a (2 ^ 1074) → hypot binary64 nan x ≡ nan
-unfolding hypot
-hypot_nan_left nan s a h = refl
-hypot_nan_left (inf t) s a h = absurd h
-hypot_nan_left (fin t m e) s a h = refl
-
-hypot_nans : hypot binary64 nan nan ≡ nan
-unfolding hypot
-hypot_nans = refl
-
-abbrev zero_zero : Float
-zero_zero = div binary64 (of_bits binary64 0) (of_bits binary64 0)
-
-pub nan_right : (x y : Float) → T (fits binary64 x) → to_bits binary64 x % 2 ^ 63 < 2047 * 2 ^ 52 → eq y y ≡ false
-    → zero_zero ≡ hypot binary64 x y
-nan_right x y f h e = none ∙ sym (hypot_nan_right x (leb (2 ^ 63) (to_bits binary64 x))
-    (ticks_of (to_bits binary64 x % 2 ^ 63)) (value_of x f h)) ∙ ap (λ (z : Float). hypot binary64 x z)
-    (sym (unlike_itself y e))
-
-pub nan_left : (x y : Float) → T (fits binary64 y) → to_bits binary64 y % 2 ^ 63 < 2047 * 2 ^ 52 → eq x x ≡ false
-    → zero_zero ≡ hypot binary64 x y
-nan_left x y f h e = none ∙ sym (hypot_nan_left y (leb (2 ^ 63) (to_bits binary64 y))
-    (ticks_of (to_bits binary64 y % 2 ^ 63)) (value_of y f h)) ∙ ap (λ (z : Float). hypot binary64 z y)
-    (sym (unlike_itself x e))
-
-pub nan_both : (x y : Float) → eq x x ≡ false → eq y y ≡ false → zero_zero ≡ hypot binary64 x y
-nan_both x y d e = none ∙ sym hypot_nans ∙ ap (λ (z : Float). hypot binary64 z nan) (sym (unlike_itself x d)) ∙ ap
-    (λ (z : Float). hypot binary64 x z) (sym (unlike_itself y e))
+pub finite : (x : Float) → T (fits binary64 x) → float_is_infinite x ≡ false → T (not (is_nan x))
+    → to_bits binary64 x % 2 ^ 63 < 2047 * 2 ^ 52
+unfolding float_is_infinite
+finite x f h n = elim (decide (2047 * 2 ^ 52) (to_bits binary64 x % 2 ^ 63)) [
+  | inl l ↦ absurd (true≢false (sym (an_infinity (leb (2 ^ 63) (to_bits binary64 x))) ∙ ap float_is_infinite (sym (is_inf x f n l)) ∙ h))
+  | inr l ↦ l
+]
+  where
+    an_infinity : (s : Bool) → float_is_infinite (inf s) ≡ true
+    an_infinity s = refl

@@ -7,7 +7,7 @@ use Rattle.arith.proofs.roots.Pattern.Bits.{units_bits}
 use Rattle.arith.proofs.roots.Root.Candidate.{root_at}
 use Rattle.arith.proofs.roots.Root.Inside.{inside_hi, inside_lo, near_inside, pred}
 use Rattle.arith.proofs.roots.Squares.{sq_lt}
-use Rattle.arith.specs.roots.Steps.{NearestHalf, NearestHalfBelow, Radicand, sq, SqrtIs}
+use Rattle.arith.specs.roots.Steps.{NearestHalf, NearestOfThree, Radicand, sq, SqrtIs}
 use Rattle.arith.specs.roots.Roots.{root}
 
 -- ---- the square root
@@ -88,13 +88,6 @@ sqrt_law m e z r e2 em rad ins =
     r ins (omega arith) in
     record { fine = k.0; is = k.1 }
 
-step : (z r : ℕ) → NearestHalfBelow z (r + 1) → NearestHalf z r
-step z r h = record { over = omega arith; under = omega arith }
-
-pub below_inside : {z y k r : ℕ} → z ≡ y → r + 1 ≡ k → NearestHalfBelow z k → NearestHalf y r
-below_inside {z} {y} {k} {r} e f b = subst (λ (x : ℕ). NearestHalf x r) e
-    (step z r (subst (λ (x : ℕ). NearestHalfBelow z x) (sym f) b))
-
-pub sqrt_checked : (m e z y k v : ℕ) → 2 ≤ e → e < 4092 → Radicand m e z → y ≡ z * 2 ^ 54 → 0 < k
-    → NearestHalfBelow y (k + v) → SqrtIs m e ((e / 2 - 1) * 2 ^ 52 + (k + v - 1))
-sqrt_checked m e z y k v e2 em rad w p b = sqrt_law m e z (k + v - 1) e2 em rad (below_inside w (omega arith) b)
+pub sqrt_checked : (m e z y k r : ℕ) → 2 ≤ e → e < 4092 → Radicand m e z → y ≡ z * 2 ^ 54
+    → NearestOfThree y k r → SqrtIs m e ((e / 2 - 1) * 2 ^ 52 + r)
+sqrt_checked m e z y k r e2 em rad w h = sqrt_law m e z r e2 em rad (subst (λ (x : ℕ). NearestHalf x r) w h.nearest)

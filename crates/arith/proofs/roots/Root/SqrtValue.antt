@@ -1,13 +1,12 @@
 -- What `sqrt` of a value is, by its bits: normal, subnormal, zero, negative, infinite, NaN.
-use Rattle.std.proofs.Common.{◌≡◌, ℕ, zero, suc, ◌+◌, ◌-◌, ◌*◌, ◌/◌, ◌%◌, ◌^◌, ◌<◌, ◌≤◌, Bool, true, false, T, sym, refl, ap, ◌∙◌, subst, inl, inr, le_trans, le_of_eq, lt_of_le_of_lt, lt_irrefl, mul-le-mul_right, mul_assoc, mul_comm, mul-pos, arith, pow_pos, pow-add}
-use lib.Ieee.{binary64, div, down, fin, fits, Float, inf, nan, of_bits, to_bits, up}
+use Rattle.std.proofs.Common.{◌≡◌, ℕ, zero, suc, ◌+◌, ◌-◌, ◌*◌, ◌/◌, ◌%◌, ◌^◌, ◌<◌, ◌≤◌, Bool, true, false, T, sym, refl, ap, ◌∙◌, subst, inl, inr, lt_irrefl, mul_assoc, mul-pos, arith, pow_pos, pow-add}
+use lib.Ieee.{binary64, down, fin, fits, Float, inf, is_nan, nan, of_bits, to_bits, up}
 use lib.Ieee.Bits.{of_bits-to_bits}
 use lib.Ieee.Exact.{HasValue}
 use lib.Ieee.Fits.{down_pos}
 use Rattle.arith.proofs.roots.Numbers.{decide}
 use Rattle.arith.proofs.roots.Pattern.Bits.{bits_val, split}
-use Rattle.arith.proofs.roots.Pattern.Special.{above_inf, minus_sign, plus_sign, unlike_itself}
-use Rattle.arith.proofs.roots.Root.Digits.{exponent_lt}
+use Rattle.arith.proofs.roots.Pattern.Special.{above_inf, minus_sign, plus_sign, is_nan_lem}
 use Rattle.arith.specs.roots.Steps.{SqrtIs, SqrtOf}
 use Rattle.arith.specs.roots.Roots.{root, sqrt}
 
@@ -53,18 +52,6 @@ small_sqrt b m e r h w s =
     (ap (λ (z : ℕ). z * 2 ^ 1074) (native.Mathlib.Nat.mul-one b) ∙ ap (λ (z : ℕ). b * z) (pow-add 2 1024 50) ∙ sym
     (mul_assoc b (2 ^ 1024) (2 ^ 50)) ∙ ap (λ (z : ℕ). z * 2 ^ 50) (sym w) ∙ mul_assoc m (2 ^ e) (2 ^ 50) ∙ ap
     (λ (z : ℕ). m * z) (sym (pow-add 2 e 50))) s
-
--- m doubles as e falls
-pub doubled : (m e : ℕ) → 1 ≤ e → 2 * m * 2 ^ (e - 1) ≡ m * 2 ^ e
-doubled m e h = ap (λ (z : ℕ). z * 2 ^ (e - 1)) (mul_comm 2 m) ∙ mul_assoc m 2 (2 ^ (e - 1)) ∙ ap (λ (z : ℕ). m * z)
-    (sym (pow-add 2 1 (e - 1)) ∙ ap (λ (i : ℕ). 2 ^ i) (let k : 1 + (e - 1) ≡ e = omega arith in k))
-
-pub large : (b m e : ℕ) → 0 < b → m < 2 ^ 53 → m * 2 ^ e ≡ b * 2 ^ 1024 → 2 ≤ e
-large b m e p h w =
-    let k = exponent_lt 1024 (53 + e)
-    (lt_of_le_of_lt (le_trans (le_of_eq (sym (native.Mathlib.Nat.one-mul (2 ^ 1024)))) (mul-le-mul_right (2 ^ 1024) p))
-    (lt_of_le_of_lt (le_of_eq (sym w)) (lib.Pow.shl_lt 53 e h))) in
-    omega arith
 
 -- ---- x itself
 pub sqrt_by_bits : (x : Float) (r : ℕ) → T (fits binary64 x) → SqrtOf (to_bits binary64 x) r
@@ -120,17 +107,14 @@ sqrt_none b t h n = elim (decide (b % 2 ^ 63) (2047 * 2 ^ 52)) [
   ]
 ]
 
-abbrev zero_zero : Float
-zero_zero = div binary64 (of_bits binary64 0) (of_bits binary64 0)
-
-pub none : zero_zero ≡ nan
-unfolding div of_bits
+pub none : of_bits binary64 0x7ff8000000000000 ≡ nan
+unfolding of_bits
 none = refl
 
 pub sqrt_no : (x : Float) → T (fits binary64 x) → to_bits binary64 x < 2 ^ 64 → 2047 * 2 ^ 52 < to_bits binary64 x
-    → (to_bits binary64 x ≡ 2 ^ 63 → ⊥) → zero_zero ≡ sqrt binary64 x
+    → (to_bits binary64 x ≡ 2 ^ 63 → ⊥) → of_bits binary64 0x7ff8000000000000 ≡ sqrt binary64 x
 sqrt_no x f t h n = none ∙ sym (sqrt_none (to_bits binary64 x) t h n) ∙ ap (λ (z : Float). sqrt binary64 z)
     (of_bits-to_bits binary64 x f)
 
-pub sqrt_of_nan : (x : Float) → lib.Ieee.eq x x ≡ false → zero_zero ≡ sqrt binary64 x
-sqrt_of_nan x h = none ∙ sym sqrt_nan ∙ ap (λ (z : Float). sqrt binary64 z) (sym (unlike_itself x h))
+pub sqrt_of_nan : (x : Float) → is_nan x ≡ true → of_bits binary64 0x7ff8000000000000 ≡ sqrt binary64 x
+sqrt_of_nan x h = none ∙ sym sqrt_nan ∙ ap (λ (z : Float). sqrt binary64 z) (sym (is_nan_lem x (subst T (sym h) tt)))

@@ -20,4 +20,4 @@ found {z} {r} m e h =
     (at m (r - 1) (omega arith) k.up (subst (λ (x : ℕ). RoundsDown (m * 2 ^ 54) 0 x) (sym f) k.down))
 
 pub returns : goal.returns
-returns c = found c.args.m c.widened-z.ensures.value c.bisect.ensures
+returns c = found c.args.m c.widened.ensures c.bisect.ensures

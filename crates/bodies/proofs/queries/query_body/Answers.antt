@@ -3,12 +3,6 @@ use Rattle.bodies.specs.Bodies.{body_answer}
 use Rattle.walk.specs.cylinders.Cylinders.{cylinder_answer}
 use Rattle.bodies.proofs.queries.query_body.Goals as goal
 
-pub returns-in-Sphere : goal.returns-in-Sphere
-returns-in-Sphere c = rw c.in-Sphere.is c.query_sphere.ensures
-
-pub returns-in-Box : goal.returns-in-Box
-returns-in-Box c = rw c.in-Box.is c.query_box.ensures
-
 pub returns-in-Cylinder : goal.returns-in-Cylinder
 unfolding body_answer cylinder_answer
 returns-in-Cylinder c = rw c.in-Cylinder.is c.query_cylinder.ensures

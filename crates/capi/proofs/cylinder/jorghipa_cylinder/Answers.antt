@@ -11,4 +11,4 @@ give_cylinder-requires c =
 
 pub returns : goal.returns
 returns c =
-    measures c.query_cylinder-answer.ensures c.give_cylinder.ensures
+    measures (rw c.bar.ensures at c.query_cylinder-answer.ensures) c.give_cylinder.ensures

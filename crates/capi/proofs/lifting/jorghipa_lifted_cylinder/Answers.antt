@@ -11,4 +11,4 @@ give_lifted_cylinder-requires c =
 
 pub returns : goal.returns
 returns c =
-    measures c.lifted_cylinder-answer.ensures c.give_lifted_cylinder.ensures
+    measures (rw c.bar.ensures at c.lifted_cylinder-answer.ensures) c.give_lifted_cylinder.ensures

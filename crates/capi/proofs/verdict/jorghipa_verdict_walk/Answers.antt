@@ -6,4 +6,4 @@ pub give_walk-requires : goal.give_walk-requires
 give_walk-requires c = c.verdict_walk-verdict.ensures.owed
 
 pub returns : goal.returns
-returns c = measures c.verdict_walk-verdict.ensures c.give_walk.ensures
+returns c = measures (rw c.bar.ensures at c.verdict_walk-verdict.ensures) c.give_walk.ensures

@@ -1,45 +1,18 @@
 -- `loads::fields::put_record`. Six fields, one behind the other.
-use native.Mathlib.Omega.{arith}
+use mathlib.Core.Path.{refl, ap, ◌∙◌}
+use Rattle.store.specs.Bytes.{low_bytes}
 use Rattle.store.specs.Records.{record_bytes}
-use Rattle.store.proofs.ReadBack.{length_low}
-use Rattle.listings.proofs.store_listing.Writing.{then}
+use Rattle.store.proofs.LowFirst.{four_written, eight_written}
+use Rattle.loads.proofs.Putting.{put_as, behind}
 use Rattle.loads.proofs.fields.put_record.Goals as goal
 
-pub put_bytes-f-requires : goal.put_bytes-f-requires
-put_bytes-f-requires c =
-    let a = c.args in
-    omega (arith, length_low 4 a.next, c.requires)
-
-pub put_bytes-g-requires : goal.put_bytes-g-requires
-put_bytes-g-requires c =
-    let a = c.args in
-    omega (arith, length_low 4 a.next, length_low 4 a.kind, c.requires)
-
-pub put_bytes-h-requires : goal.put_bytes-h-requires
-put_bytes-h-requires c =
-    let a = c.args in
-    omega (arith, length_low 4 a.next, length_low 4 a.kind, length_low 8 a.a, c.requires)
-
-pub put_bytes-i-requires : goal.put_bytes-i-requires
-put_bytes-i-requires c =
-    let a = c.args in
-    omega (arith, length_low 4 a.next, length_low 4 a.kind, length_low 8 a.a, length_low 8 a.b, c.requires)
-
-pub put_bytes-requires : goal.put_bytes-requires
-put_bytes-requires c =
-    let a = c.args in
-    omega (
-      arith,
-      length_low 4 a.next,
-      length_low 4 a.kind,
-      length_low 8 a.a,
-      length_low 8 a.b,
-      length_low 8 a.c,
-      c.requires,
-    )
-
 pub returns : goal.returns
-unfolding record_bytes
+unfolding record_bytes low_bytes
 returns c =
-    then (then (then (then (then c.put_bytes-e.ensures c.put_bytes-f.ensures) c.put_bytes-g.ensures)
-    c.put_bytes-h.ensures) c.put_bytes-i.ensures) c.put_bytes.ensures
+    let next = put_as (c.to_le_bytes.ensures ∙ four_written _) c.put.ensures in
+    let kind = put_as (c.to_le_bytes-2.ensures ∙ four_written _ ∙ ap (low_bytes 4) c.number.ensures) c.put-2.ensures in
+    let a = put_as (c.to_le_bytes-3.ensures ∙ eight_written _) c.put-3.ensures in
+    let b = put_as (c.to_le_bytes-4.ensures ∙ eight_written _) c.put-4.ensures in
+    let c' = put_as (c.to_le_bytes-5.ensures ∙ eight_written _) c.put-5.ensures in
+    let d = put_as (c.to_le_bytes-6.ensures ∙ eight_written _) c.put-6.ensures in
+    behind (behind (behind (behind (behind next refl kind) refl a) refl b) refl c') refl d

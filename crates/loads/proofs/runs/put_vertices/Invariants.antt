@@ -1,7 +1,5 @@
 -- `loads::runs::put_vertices`. Two states go into a vertex in a turn.
-use Prim.Native.Nat.{◌-◌, ◌*◌, ◌≤◌}
-use mathlib.Core.Path.{◌≡◌}
-use lib.ListN.{length}
+use Prim.Native.Nat.{◌*◌}
 use Rattle.loads.specs.Xorshift.{state_after}
 use Rattle.loads.specs.Load.{load_vertices}
 use Rattle.loads.specs.Steps.{Drawn}
@@ -9,7 +7,4 @@ use Rattle.loads.proofs.runs.put_vertices.Given as goal
 
 abbrev pub invariant-loop-i : goal.invariant-loop-i
 invariant-loop-i l =
-    (l.i ≤ l.n) × (length l.space ≡ length l.initial.space) × Drawn l.initial.space 40 (load_vertices l.seed l.i) l.space (state_after l.seed (l.i * 2)) l.state
-
-abbrev pub decreases-loop-i : goal.decreases-loop-i
-decreases-loop-i l = l.n - l.i
+    Drawn l.initial.space 40 (load_vertices l.seed l.i) l.space (state_after l.seed (l.i * 2)) l.state

@@ -1,18 +1,9 @@
--- `records::queries::query_sphere_of` meets its contract: its loop fills the array's front, which is asked.
-use Rattle.records.specs.Steps.{OfSphere}
-use Rattle.records.proofs.FrontFilled.{filled_start, filled_next, nearer, answered}
+-- `records::queries::query_sphere_of` meets its contract: more than 256 vertices are turned down.
+use Rattle.section.proofs.profile.Numbered.{handed_on}
 use Rattle.records.proofs.TooMany.{sphere_too_many}
 use Rattle.records.proofs.queries.query_sphere_of.Goals as goal
 
-pub loop-i-init : goal.loop-i-init
-loop-i-init c = filled_start _ c.blank-items.ensures
-
-pub loop-i-smaller : goal.loop-i-smaller
-loop-i-smaller c = nearer c.loop-i-test.true c.put-i.ensures.0
-
-pub loop-i-preserved : goal.loop-i-preserved
-loop-i-preserved c = filled_next _ c.loop-i.invariant c.loop-i-test.true c.put-i.ensures
-
-pub returns : goal.returns
-returns c =
-    answered (OfSphere c.args.sphere) c.loop-i.invariant c.loop-i-test.false (λ h. sphere_too_many _ h _) c.sphere_front.ensures
+pub returns-in_err-n : goal.returns-in_err-n
+returns-in_err-n c =
+    let many = c.in_err-n.ensures.many in
+    rw (handed_on c.from_residual.result c.from_residual.ensures, many.0) (sphere_too_many _ many.1 _)

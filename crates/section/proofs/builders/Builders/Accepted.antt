@@ -9,17 +9,18 @@ use lib.Dec.{nltb→le}
 use lib.ListN.{length}
 use lib.Ieee.{Float}
 use borrow.Author.Tests.{lt-ltb, le-ltb, ne_eqb}
+use Rattle.std.specs.Prelude.{Result}
 use Rattle.section.specs.profile.Vertices.{count}
 use Rattle.section.specs.profile.Refusals.{Test, refusal, any_below_axis, list_tests}
-use Rattle.section.specs.profile.Replies.{value, turned_down, reply}
+use Rattle.section.specs.profile.Replies.{value, turned_down, reply, told}
 use Rattle.section.proofs.profile.Each.{All, cons}
 use Rattle.section.proofs.profile.Refusals.Ordered.{Passes, refusal_append}
 use Rattle.section.proofs.profile.Refusals.Passed.{counted, taken}
 use Rattle.section.proofs.profile.Replies.{refused}
 use Rattle.section.specs.builders.Builder.{section_of, polygon_of}
-use Rattle.section.specs.builders.Kept.{told, section_own, polygon_own, section_answer, polygon_answer}
+use Rattle.section.specs.builders.Kept.{section_own, polygon_own, section_answer, polygon_answer}
 use Rattle.section.specs.builders.Steps.{three_kept}
-use Rattle.section.specs.declared.builders.shapes.Kept.{Kept}
+use Rattle.section.specs.declared.shapes.Refusal.{Refusal}
 use Rattle.section.proofs.builders.Builders.Kept.{three_answer, accepted}
 use Rattle.section.proofs.builders.Builders.Closing.{section_whole, polygon_whole}
 
@@ -54,7 +55,7 @@ module _ (s space : List Float) where
     unfolding refusal
     section_small y h = rw (section_own_lem, ← f, y, lt-ltb (length space) (2 * (count s + 2)) (omega arith))
 
-    pub section_counted : t ≡ false → count s * 2 + 4 ≤ length space → {k : ℕ} → k ≡ count (section_of s) → {r : Kept}
+    pub section_counted : t ≡ false → count s * 2 + 4 ≤ length space → {k : ℕ} → k ≡ count (section_of s) → {r : Result ℕ Refusal}
         → r ≡ three_kept k → told r ≡ section_answer s space
     unfolding refusal
     section_counted y h c q =
@@ -74,7 +75,7 @@ module _ (s space : List Float) where
     unfolding refusal
     polygon_small y h = rw (polygon_own_lem, ← f, y, lt-ltb (length space) (2 * count s) (omega arith))
 
-    pub polygon_counted : t ≡ false → count s * 2 ≤ length space → {k : ℕ} → k ≡ count (polygon_of s) → {r : Kept}
+    pub polygon_counted : t ≡ false → count s * 2 ≤ length space → {k : ℕ} → k ≡ count (polygon_of s) → {r : Result ℕ Refusal}
         → r ≡ three_kept k → told r ≡ polygon_answer s space
     unfolding refusal
     polygon_counted y h c q =

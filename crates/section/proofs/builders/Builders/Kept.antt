@@ -8,14 +8,16 @@ use lib.Dec.{ltb}
 use lib.ListN.{length}
 use lib.Seq.{take_all}
 use lib.Ieee.{Float}
+use Rattle.std.specs.Prelude.{Result, Ok, Err}
+use Rattle.std.specs.Result.{result_unwrap_or}
 use Rattle.section.specs.profile.Vertices.{count}
 use Rattle.section.specs.profile.Refusals.{◌when◌, refusal, fewer}
-use Rattle.section.specs.profile.Replies.{value, turned_down, reply}
+use Rattle.section.specs.profile.Replies.{value, turned_down, reply, told}
 use Rattle.section.specs.builders.Builder.{filled}
-use Rattle.section.specs.builders.Steps.{three_kept, numbers_of, front_kept}
-use Rattle.section.specs.builders.Kept.{told, handed_back}
-use Rattle.section.specs.declared.builders.shapes.Kept.{Kept}
-use Rattle.section.specs.declared.builders.shapes.Kept.TheVariants.{Numbers, Refused}
+use Rattle.section.specs.builders.Steps.{three_kept, front_kept}
+use Rattle.section.specs.builders.Kept.{handed_back}
+use Rattle.section.specs.declared.shapes.Refusal.{Refusal}
+use Rattle.section.specs.declared.shapes.Refusal.TheVariants.{TooFewKept}
 use Rattle.section.proofs.builders.Builders.Keep.{Whole}
 
 -- number n, and l what is kept
@@ -24,15 +26,15 @@ module _ (l : List Float) where
   unfolding three_kept refusal
   three_answer e = by (ltb (count l) 3)
     where
-      by : (t : Bool) → told (cond t (Refused 8) (Numbers (count l * 2))) ≡ reply (cond t 8 0) (length l)
+      by : (t : Bool) → told (cond t (Err TooFewKept) (Ok (count l * 2))) ≡ reply (cond t 8 0) (length l)
       by true = refl
       by false = ap value (sym e)
 
-  pub handed_long : (a : Kept) (n : ℕ) → told a ≡ reply n (length l) → numbers_of a ≡ length (handed_back n l)
-  handed_long (Numbers m) zero e = cc
-  handed_long (Numbers m) (suc n) e = let z : ◌≡◌ {A = ℕ} 0 1 = cc in absurd (omega arith)
-  handed_long (Refused m) zero e = let z : ◌≡◌ {A = ℕ} 0 1 = cc in absurd (omega arith)
-  handed_long (Refused m) (suc n) e = refl
+  pub handed_long : (a : Result ℕ Refusal) (n : ℕ) → told a ≡ reply n (length l) → result_unwrap_or a 0 ≡ length (handed_back n l)
+  handed_long (Ok m) zero e = cc
+  handed_long (Ok m) (suc n) e = let z : ◌≡◌ {A = ℕ} 0 1 = cc in absurd (omega arith)
+  handed_long (Err m) zero e = let z : ◌≡◌ {A = ℕ} 0 1 = cc in absurd (omega arith)
+  handed_long (Err m) (suc n) e = refl
 
   -- turned down, the space stays; otherwise n is 0, and l is kept
   pub stays : (n m : ℕ) (space : List Float) → turned_down m ≡ reply n (length l) → space ≡ filled (handed_back n l) space

@@ -5,13 +5,15 @@ use mathlib.Core.Path.{◌≡◌, ◌∙◌}
 use lib.ListN.{length, take}
 use lib.Seq.{take-append_seam}
 use lib.Ieee.{Float}
+use Rattle.std.specs.Prelude.{Result}
+use Rattle.std.specs.Result.{result_unwrap_or}
 use Rattle.section.specs.builders.Builder.{section_of, polygon_of, filled}
 use Rattle.section.specs.profile.Refusals.{refusal}
-use Rattle.section.specs.profile.Replies.{value, turned_down}
-use Rattle.section.specs.builders.Kept.{told, section_tests, polygon_tests}
+use Rattle.section.specs.profile.Replies.{value, turned_down, told}
+use Rattle.section.specs.builders.Kept.{section_tests, polygon_tests}
 use Rattle.section.specs.builders.Kept.{section_answer, polygon_answer, section_kept, polygon_kept}
-use Rattle.section.specs.builders.Steps.{front_kept, numbers_of}
-use Rattle.section.specs.declared.builders.shapes.Kept.{Kept}
+use Rattle.section.specs.builders.Steps.{front_kept}
+use Rattle.section.specs.declared.shapes.Refusal.{Refusal}
 use Rattle.section.proofs.builders.Builders.Closing.{section_whole, polygon_whole}
 use Rattle.section.proofs.builders.Builders.Kept.{stays, written_all, handed_long}
 
@@ -29,7 +31,7 @@ module _ (s space : List Float) where
   unfolding section_answer section_kept
   section_written {m} a = written_all (refusal (section_tests s space)) m (section_of s) space (section_whole s) a
 
-  pub section_long : {k : ℕ} (a : Kept) → k ≡ numbers_of a → told a ≡ section_answer s space → k ≡ length (section_kept s space)
+  pub section_long : {k : ℕ} (a : Result ℕ Refusal) → k ≡ result_unwrap_or a 0 → told a ≡ section_answer s space → k ≡ length (section_kept s space)
   unfolding section_answer section_kept
   section_long a e q = e ∙ handed_long (section_of s) a (refusal (section_tests s space)) q
 
@@ -41,6 +43,6 @@ module _ (s space : List Float) where
   unfolding polygon_answer polygon_kept
   polygon_written {m} a = written_all (refusal (polygon_tests s space)) m (polygon_of s) space (polygon_whole s) a
 
-  pub polygon_long : {k : ℕ} (a : Kept) → k ≡ numbers_of a → told a ≡ polygon_answer s space → k ≡ length (polygon_kept s space)
+  pub polygon_long : {k : ℕ} (a : Result ℕ Refusal) → k ≡ result_unwrap_or a 0 → told a ≡ polygon_answer s space → k ≡ length (polygon_kept s space)
   unfolding polygon_answer polygon_kept
   polygon_long a e q = e ∙ handed_long (polygon_of s) a (refusal (polygon_tests s space)) q

@@ -1,8 +1,7 @@
 -- `store::bytes::u32_at` meets its contract.
-use Rattle.store.specs.Bytes.{little_endian}
-use borrow.Author.Rules.{rules}
+use Rattle.store.proofs.LowFirst.{four_read}
 use Rattle.store.proofs.bytes.u32_at.Goals as goal
 
 pub returns : goal.returns
-unfolding little_endian
-returns c = search rules
+returns c =
+    rw (c.from_le_bytes.ensures, c.byte_at.ensures, c.byte_at-2.ensures, c.byte_at-3.ensures, c.byte_at-4.ensures) (four_read _ _)

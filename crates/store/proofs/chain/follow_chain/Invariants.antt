@@ -1,10 +1,6 @@
 -- `store::chain::follow_chain`. One record of the chain is passed in a turn.
-use Prim.Native.Nat.{◌-◌}
 use Rattle.store.proofs.Following.{Following}
 use Rattle.store.proofs.chain.follow_chain.Given as goal
 
 abbrev pub invariant-loop-n : goal.invariant-loop-n
 invariant-loop-n l = Following l.store l.order l.marks l.k l.n
-
-abbrev pub decreases-loop-n : goal.decreases-loop-n
-decreases-loop-n l = l.count - l.n

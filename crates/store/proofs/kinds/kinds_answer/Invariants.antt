@@ -1,12 +1,8 @@
 -- `store::kinds::kinds_answer` meets its contract: what is left to look at gives the answer.
-use Prim.Native.Nat.{◌-◌, ◌≤◌}
 use mathlib.Core.Path.{◌≡◌}
-use lib.ListN.{length, drop}
+use lib.ListN.{drop}
 use Rattle.store.specs.Kinds.{kinds_answer}
 use Rattle.store.proofs.kinds.kinds_answer.Given as goal
 
-abbrev pub invariant-loop-i : goal.invariant-loop-i
-invariant-loop-i l = (l.i ≤ length l.order) × (kinds_answer l.store l.order ≡ kinds_answer l.store (drop l.i l.order))
-
-abbrev pub decreases-loop-i : goal.decreases-loop-i
-decreases-loop-i l = length l.order - l.i
+abbrev pub invariant-loop-k : goal.invariant-loop-k
+invariant-loop-k l = kinds_answer l.store l.order ≡ kinds_answer l.store (drop l.k-index l.order)

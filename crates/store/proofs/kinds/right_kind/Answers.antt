@@ -5,19 +5,31 @@ use Rattle.store.proofs.kinds.right_kind.Goals as goal
 
 pub returns-then-k-eq0 : goal.returns-then-k-eq0
 unfolding right_kind
-returns-then-k-eq0 c = rw (← c.kind_of-kind.ensures, eq-eqb _ _ c.if-k-eq0.true)
+returns-then-k-eq0 c = rw (eq-eqb _ _ c.if-k-eq0.true) c.is_kind.ensures
 
-pub returns-then-kind-eq1 : goal.returns-then-kind-eq1
+pub returns-then-is_kind : goal.returns-then-is_kind
 unfolding right_kind
-returns-then-kind-eq1 c =
-    rw (← c.kind_of-kind.ensures, ne_eqb _ _ c.if-k-eq0.false, eq-eqb _ _ c.if-kind-eq1.true)
+returns-then-is_kind c = rw (ne_eqb _ _ c.if-k-eq0.false, ← c.is_kind-2.ensures, c.if-is_kind.true)
 
-pub returns-then-kind-eq2 : goal.returns-then-kind-eq2
+pub returns-then-is_kind-2 : goal.returns-then-is_kind-2
 unfolding right_kind
-returns-then-kind-eq2 c =
-    rw (← c.kind_of-kind.ensures, ne_eqb _ _ c.if-k-eq0.false, ne_eqb _ _ c.if-kind-eq1.false, eq-eqb _ _ c.if-kind-eq2.true)
+returns-then-is_kind-2 c =
+    rw (
+      ne_eqb _ _ c.if-k-eq0.false,
+      ← c.is_kind-2.ensures,
+      c.if-is_kind.false,
+      ← c.is_kind-else-is_kind.ensures,
+      c.if-is_kind-2.true,
+    )
 
-pub returns-else-kind-eq2 : goal.returns-else-kind-eq2
+pub returns-else-is_kind-2 : goal.returns-else-is_kind-2
 unfolding right_kind
-returns-else-kind-eq2 c =
-    rw (← c.kind_of-kind.ensures, ne_eqb _ _ c.if-k-eq0.false, ne_eqb _ _ c.if-kind-eq1.false, ne_eqb _ _ c.if-kind-eq2.false)
+returns-else-is_kind-2 c =
+    rw (
+      ne_eqb _ _ c.if-k-eq0.false,
+      ← c.is_kind-2.ensures,
+      c.if-is_kind.false,
+      ← c.is_kind-else-is_kind.ensures,
+      c.if-is_kind-2.false,
+      ← c.is_kind-else-is_kind-2.ensures,
+    )

@@ -1,5 +1,4 @@
 -- `walk::samples::sampled` meets its contract: a fold.
-use Prim.Native.Nat.{suc, ◌≤◌, ◌-◌}
 use mathlib.Core.Path.{◌≡◌}
 use Rattle.arith.specs.F64.{𝟘, ∞}
 use Rattle.section.specs.profile.Vertices.{vertex, on, hit, upto}
@@ -9,7 +8,4 @@ use Rattle.walk.proofs.samples.sampled.Given as goal
 
 abbrev pub invariant-loop-i : goal.invariant-loop-i
 invariant-loop-i l =
-    (l.i ≤ suc l.n) × (l.best ≡ upto (λ i best. sample_at l.s l.b (sample_z l.b l.n i) best) (hit ∞ (on 0 (vertex l.b.zc 𝟘))) l.i)
-
-abbrev pub decreases-loop-i : goal.decreases-loop-i
-decreases-loop-i l = suc l.n - l.i
+    l.best ≡ upto (λ i best. sample_at l.s l.b (sample_z l.b l.n i) best) (hit ∞ (on 0 (vertex l.b.zc 𝟘))) l.i

@@ -1,6 +1,12 @@
 -- `bodies::lifted::queries::lifted_point` meets its contract: the plain answer's, lifted.
-use Rattle.bodies.proofs.lifted.Accepted.{point_placed}
+use Rattle.section.proofs.profile.Numbered.{handed_on}
+use Rattle.bodies.proofs.lifted.Accepted.{point_placed, point_refused}
 use Rattle.bodies.proofs.lifted.queries.lifted_point.Goals as goal
 
+pub returns-in_err-hit : goal.returns-in_err-hit
+returns-in_err-hit c =
+    rw (handed_on c.from_residual.result c.from_residual.ensures)
+    (point_refused _ _ c.in_err-hit.ensures)
+
 pub returns : goal.returns
-returns c = point_placed _ _ c.signed_distance-answer.ensures c.lifted_answer.ensures
+returns c = point_placed _ _ c.in_ok-hit.ensures c.lift-witness.ensures

@@ -8,4 +8,4 @@ returns-then-bytes-eq40 c =
     c.give_length.ensures
 
 pub returns : goal.returns
-returns c = edit_refused _ _ _ _ _ c.if-bytes-eq40.false
+returns c = rw c.number.ensures (edit_refused _ _ _ _ _ c.if-bytes-eq40.false)

@@ -1,23 +1,7 @@
--- `section::aabb::aabb::any_edge_through` meets its contract: a search, nothing found so far.
-use native.Mathlib.Omega.{arith}
-use mathlib.Core.Path.{refl}
-use borrow.Author.Rules.{rules}
-use Rattle.section.specs.profile.Vertices.{any}
-use Rattle.section.proofs.profile.Fold.{any_more, any_end, any_at}
+-- `section::aabb::aabb::any_edge_through` meets its contract.
+use Rattle.std.proofs.Common.{rules}
+use Rattle.section.specs.boxes.Boxes.{segment_through_interior}
 use Rattle.section.proofs.aabb.aabb.any_edge_through.Goals as goal
 
-pub loop-k-init : goal.loop-k-init
-unfolding any
-loop-k-init c = (search rules, refl)
-
-pub returns-then-edge_through : goal.returns-then-edge_through
-returns-then-edge_through c = any_at _ _ _ c.loop-k-test.true c.edge_through.ensures c.if-edge_through.true
-
-pub loop-k-preserved : goal.loop-k-preserved
-loop-k-preserved c = (
-  search rules,
-  any_more _ _ c.loop-k.invariant.1 c.edge_through.ensures c.if-edge_through.false,
-)
-
 pub returns : goal.returns
-returns c = any_end _ _ c.loop-k.invariant.1 _ (omega arith)
+returns c = c.any_edge.ensures (segment_through_interior c.args.x) (λ a b r p. search rules)

@@ -1,5 +1,4 @@
 -- `section::aabb::aabb::box_witness` meets its contract: a fold.
-use Prim.Native.Nat.{◌≤◌, ◌-◌}
 use mathlib.Core.Bool.{cond}
 use mathlib.Core.Path.{◌≡◌}
 use Rattle.section.specs.profile.Vertices.{on, vertex_at, upto}
@@ -7,8 +6,4 @@ use Rattle.section.specs.boxes.Boxes.{strictly_inside_aabb}
 use Rattle.section.proofs.aabb.aabb.box_witness.Given as goal
 
 abbrev pub invariant-loop-k : goal.invariant-loop-k
-invariant-loop-k l =
-    (l.k ≤ l.n) × (l.at ≡ upto (λ j at. cond (strictly_inside_aabb l.x (vertex_at l.s j)) (on j (vertex_at l.s j)) at) l.initial.at l.k)
-
-abbrev pub decreases-loop-k : goal.decreases-loop-k
-decreases-loop-k l = l.n - l.k
+invariant-loop-k l = l.at ≡ upto (λ j at. cond (strictly_inside_aabb l.x (vertex_at l.s j)) (on j (vertex_at l.s j)) at) l.initial.at l.k

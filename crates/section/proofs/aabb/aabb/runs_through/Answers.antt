@@ -8,6 +8,3 @@ use Rattle.section.proofs.aabb.aabb.runs_through.Goals as goal
 
 pub returns-then-gap : goal.returns-then-gap
 returns-then-gap c = sym (apart _ _ (subst (λ (g : Float). (𝟘 ≺ g) ≡ true) c.requires c.if-gap.true))
-
-pub returns : goal.returns
-returns c = c.any_edge_through.ensures

@@ -2,26 +2,7 @@
 use Rattle.section.proofs.ranges.Nearest.{met_first}
 use Rattle.section.specs.boxes.Boxes.{box_gap}
 use Rattle.section.proofs.boxes.Held.{edge_held}
-use borrow.Author.Rules.{rules}
 use Rattle.section.proofs.boxes.gap.box_gap.Goals as goal
-
-pub gap_before-before-requires : goal.gap_before-before-requires
-gap_before-before-requires c = (
-  search rules,
-  c.sides_of-sides.ensures,
-  c.legless.ensures.1,
-)
-
-pub nearer_near-best-requires : goal.nearer_near-best-requires
-nearer_near-best-requires c = search (c.gap_before-before.ensures.1, c.first_gap-first.ensures.1)
-
-pub gap_from-last-requires : goal.gap_from-last-requires
-gap_from-last-requires c = (
-  search rules,
-  search rules,
-  c.sides_of-sides.ensures,
-  c.nearer_near-best.ensures.legs,
-)
 
 pub returns : goal.returns
 unfolding box_gap
@@ -33,7 +14,7 @@ returns c =
       c.vertex_at.ensures,
       c.infinity.ensures,
     ))
-    (rw c.edge_at.ensures at c.first_gap-first.ensures.0)
+    (rw c.edge_at.ensures at c.first_gap-first.ensures)
     c.start_over-start.ensures
-    (rw c.legless.ensures.0 at c.gap_before-before.ensures.0)
-    c.nearer_near-best.ensures.hit c.gap_from-last.ensures.0
+    (rw c.legless.ensures at c.gap_before-before.ensures)
+    c.nearer_near-best.ensures c.gap_from-last.ensures

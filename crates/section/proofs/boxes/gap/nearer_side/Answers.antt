@@ -5,19 +5,9 @@ use Rattle.section.proofs.boxes.gap.nearer_side.Goals as goal
 
 pub hopeless-requires : goal.hopeless-requires
 hopeless-requires c =
-    (rw c.gap_between-z.ensures (gap_plus _ _), rw c.gap_between-r.ensures (gap_plus _ _), c.requires.1)
+    (rw c.gap_between-z.ensures (gap_plus _ _), rw c.gap_between-r.ensures (gap_plus _ _))
 
 pub returns-then-hopeless : goal.returns-then-hopeless
 returns-then-hopeless c =
-    record {
-      hit = rw (side_passed _ _ _ _ _ _ _ c.requires.0
-          (rw (c.gap_between-z.ensures, c.gap_between-r.ensures) at
-          (c.hopeless.ensures c.if-hopeless.true)));
-      legs = c.requires.1;
-    }
-
-pub seg_seg_point_on_first-requires : goal.seg_seg_point_on_first-requires
-seg_seg_point_on_first-requires c = c.requires.1
-
-pub returns : goal.returns
-returns c = c.seg_seg_point_on_first.ensures
+    rw (side_passed _ _ _ _ _ _ _ c.requires
+    (rw (c.gap_between-z.ensures, c.gap_between-r.ensures) at (c.hopeless.ensures c.if-hopeless.true)))

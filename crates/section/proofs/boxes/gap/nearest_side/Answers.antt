@@ -5,36 +5,26 @@ use Rattle.section.proofs.boxes.gap.nearest_side.Goals as goal
 
 pub nearer_side-first-requires : goal.nearer_side-first-requires
 nearer_side-first-requires c =
-    let known = c.requires in
-    let low = low_side _ _ known.1 known.0.box_sides known.0.edge_ranges in
-    let last = last_side _ _ known.1 known.0.box_sides known.0.edge_ranges in
-    (search (low, last), known.0.legs)
+    low_side _ _ c.requires.1 c.args.sided.known c.requires.0
 
 pub nearer_side-second-requires : goal.nearer_side-second-requires
 nearer_side-second-requires c =
-    let known = c.requires in
-    let low = low_side _ _ known.1 known.0.box_sides known.0.edge_ranges in
-    let last = last_side _ _ known.1 known.0.box_sides known.0.edge_ranges in
-    (search (low, last), c.nearer_side-first.ensures.legs)
+    last_side _ _ c.requires.1 c.args.sided.known c.requires.0
 
 pub nearer_side-third-requires : goal.nearer_side-third-requires
 nearer_side-third-requires c =
-    let known = c.requires in
-    (high_side _ _ known.1 known.0.box_sides known.0.edge_ranges, c.nearer_side-second.ensures.legs)
+    high_side _ _ c.requires.1 c.args.sided.known c.requires.0
 
 pub nearer_side-requires : goal.nearer_side-requires
 nearer_side-requires c =
-    let known = c.requires in
-    (first_side _ _ known.1 known.0.box_sides known.0.edge_ranges, c.nearer_side-third.ensures.legs)
+    first_side _ _ c.requires.1 c.args.sided.known c.requires.0
 
 pub returns : goal.returns
 unfolding upto
-returns c = (
-  rw (
-    ← c.nearer_side-first.ensures.hit,
-    ← c.nearer_side-second.ensures.hit,
-    ← c.nearer_side-third.ensures.hit,
-    ← c.nearer_side.ensures.hit,
-  ),
-  c.nearer_side.ensures.legs,
-)
+returns c =
+    rw (
+      ← c.nearer_side-first.ensures,
+      ← c.nearer_side-second.ensures,
+      ← c.nearer_side-third.ensures,
+      ← c.nearer_side.ensures,
+    )

@@ -22,6 +22,3 @@ returns-then-z-best c =
     (hopeless_z _ _ _ (gap_held _ _) (gap_held _ _) c.well_formed.1.1.1.0.1.1.0.1.1.0.1
     (rw (← c.requires) c.if-z-best.true))
     (missed_z _ _ _ (sym c.misses_along.ensures ∙ t))
-
-pub returns : goal.returns
-returns c = λ t. absurd (true→T t)

@@ -5,18 +5,10 @@ use Rattle.section.proofs.ranges.Apart.{gap_plus}
 use Rattle.section.proofs.boxes.Passed.{passed}
 use Rattle.section.proofs.boxes.gap.passed_over.Goals as goal
 
-pub passed_along_z-requires : goal.passed_along_z-requires
-passed_along_z-requires c =
-    rw (c.range_of.ensures, c.requires.0) at c.gap_between-z.ensures
-
-pub returns-then-passed_along_z : goal.returns-then-passed_along_z
-returns-then-passed_along_z c = λ t. c.passed_along_z.ensures c.if-passed_along_z.true
-
 pub hopeless-requires : goal.hopeless-requires
 hopeless-requires c = (
   rw c.gap_between-z.ensures (gap_plus _ _),
   rw c.gap_between-r.ensures (gap_plus _ _),
-  c.requires.1,
 )
 
 pub returns-then-hopeless : goal.returns-then-hopeless
@@ -25,12 +17,12 @@ returns-then-hopeless c =
     (record {
       a_z = true→T c.well_formed.0.1.1.0.1.1.0.1;
       a_r = true→T c.well_formed.0.1.1.0.1.1.1.0.1;
-      z0 = true→T c.well_formed.1.0.1.1.0.1;
-      z1 = true→T c.well_formed.1.0.1.1.1.0.1;
-      r0 = true→T c.well_formed.1.0.1.1.1.1.0.1;
-      r1 = true→T c.well_formed.1.0.1.1.1.1.1.0.1;
+      z0 = true→T c.well_formed.1.0.1.1.0.1.1.0.1;
+      z1 = true→T c.well_formed.1.0.1.1.0.1.1.1.0.1;
+      r0 = true→T c.well_formed.1.0.1.1.0.1.1.1.1.0.1;
+      r1 = true→T c.well_formed.1.0.1.1.0.1.1.1.1.1.0.1;
     })
-    c.requires.0 refl _
+    c.args.x.known refl _
     (rw (
       c.gap_between-z.ensures,
       c.range_of.ensures,
@@ -38,6 +30,3 @@ returns-then-hopeless c =
       c.range_of-2.ensures,
     ) at (c.hopeless.ensures c.if-hopeless.true))
     (c.misses_box.ensures t)
-
-pub returns : goal.returns
-returns c = λ t. absurd (true→T t)

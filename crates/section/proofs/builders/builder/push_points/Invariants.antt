@@ -1,5 +1,4 @@
 -- `section::builders::builder::push_points` meets its contract: after k points, run and space are those of what is kept of them.
-use Prim.Native.Nat.{◌≤◌, ◌-◌}
 use mathlib.Core.Path.{◌≡◌}
 use Rattle.section.specs.builders.Builder.{kept_points}
 use Rattle.section.specs.builders.Steps.{run_of, front_kept}
@@ -7,7 +6,4 @@ use Rattle.section.proofs.builders.builder.push_points.Given as goal
 
 abbrev pub invariant-loop-k : goal.invariant-loop-k
 invariant-loop-k l =
-    (l.k ≤ l.n) × (l.run ≡ run_of (kept_points l.points l.k)) × (l.space ≡ front_kept l.limit (kept_points l.points l.k) l.initial.space)
-
-abbrev pub decreases-loop-k : goal.decreases-loop-k
-decreases-loop-k l = l.n - l.k
+    (l.run ≡ run_of (kept_points l.points l.k)) × (l.space ≡ front_kept l.limit (kept_points l.points l.k) l.initial.space)

@@ -7,10 +7,10 @@ use Rattle.section.proofs.builders.builder.try_from_polygon.Goals as goal
 pub slice_bounds-result-end : goal.slice_bounds-result-end
 slice_bounds-result-end c =
     let e = c.write_polygon.ensures in
-    let long = polygon_long _ _ c.write_polygon.result c.handed_back-count.ensures e.equal in
+    let long = polygon_long _ _ c.write_polygon.result c.unwrap_or-count.ensures e.equal in
     long ∙ ap length (sym (handed _ _ long e.space_after))
 
 pub returns : goal.returns
 returns c =
     let e = c.write_polygon.ensures in
-    (handed _ _ (polygon_long _ _ c.write_polygon.result c.handed_back-count.ensures e.equal) e.space_after, refl)
+    (handed _ _ (polygon_long _ _ c.write_polygon.result c.unwrap_or-count.ensures e.equal) e.space_after, refl)

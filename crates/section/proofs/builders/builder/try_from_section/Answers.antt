@@ -7,10 +7,10 @@ use Rattle.section.proofs.builders.builder.try_from_section.Goals as goal
 pub slice_bounds-result-end : goal.slice_bounds-result-end
 slice_bounds-result-end c =
     let e = c.write_section.ensures in
-    let long = section_long _ _ c.write_section.result c.handed_back-numbers.ensures e.equal in
+    let long = section_long _ _ c.write_section.result c.unwrap_or-numbers.ensures e.equal in
     long ∙ ap length (sym (handed _ _ long e.space_after))
 
 pub returns : goal.returns
 returns c =
     let e = c.write_section.ensures in
-    (handed _ _ (section_long _ _ c.write_section.result c.handed_back-numbers.ensures e.equal) e.space_after, refl)
+    (handed _ _ (section_long _ _ c.write_section.result c.unwrap_or-numbers.ensures e.equal) e.space_after, refl)

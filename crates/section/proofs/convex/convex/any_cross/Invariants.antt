@@ -1,6 +1,5 @@
 -- `section::convex::convex::any_cross` meets its contract: while it searches, no row below i has a proper crossing, and no
 -- edge below j in row i.
-use Prim.Native.Nat.{◌≤◌, ◌-◌}
 use mathlib.Core.Bool.{false}
 use mathlib.Core.Path.{◌≡◌}
 use Rattle.section.specs.profile.Vertices.{vertex_at, end_at, any}
@@ -10,16 +9,9 @@ use Rattle.section.proofs.convex.convex.any_cross.Given as goal
 
 abbrev pub invariant-loop-j : goal.invariant-loop-j
 invariant-loop-j l =
-    (l.j ≤ l.m)
-    × (l.found ≡ false)
+    (l.found ≡ false)
     × (any (λ k. proper_cross l.a l.b (vertex_at l.s k) (end_at l.s k)) l.j ≡ false)
     × SideAt l.s l.a l.b l.j l.side
 
-abbrev pub decreases-loop-j : goal.decreases-loop-j
-decreases-loop-j l = l.m - l.j
-
 abbrev pub invariant-search : goal.invariant-search
-invariant-search l = (l.i ≤ l.n) × (l.found ≡ false) × (any (row_crossing l.c l.s) l.i ≡ false)
-
-abbrev pub decreases-search : goal.decreases-search
-decreases-search l = l.n - l.i
+invariant-search l = (l.found ≡ false) × (any (row_crossing l.c l.s) l.i ≡ false)

@@ -1,5 +1,4 @@
 -- `section::convex::convex::convex_near` meets its contract: a fold.
-use Prim.Native.Nat.{◌≤◌, ◌-◌}
 use mathlib.Core.Path.{◌≡◌}
 use Rattle.arith.specs.F64.{∞}
 use Rattle.arith.specs.Num.{min}
@@ -8,8 +7,4 @@ use Rattle.section.specs.segments.Segments.{closest}
 use Rattle.section.proofs.convex.convex.convex_near.Given as goal
 
 abbrev pub invariant-loop-k : goal.invariant-loop-k
-invariant-loop-k l =
-    (l.k ≤ l.n) × (l.best ≡ upto (λ j best. min best (closest l.p (edge_at l.c j)).distance) ∞ l.k)
-
-abbrev pub decreases-loop-k : goal.decreases-loop-k
-decreases-loop-k l = l.n - l.k
+invariant-loop-k l = l.best ≡ upto (λ j best. min best (closest l.p (edge_at l.c j)).distance) ∞ l.k

@@ -9,6 +9,3 @@ returns-then-not-point_in_convex c =
       ← c.vertex_at-v.ensures,
       convex_outside _ c.if-best.true _ _ (sym c.point_in_convex.ensures ∙ c.if-not-point_in_convex.true),
     )
-
-pub returns : goal.returns
-returns c = rw (c.deeper_point.ensures, c.vertex_at-v.ensures)

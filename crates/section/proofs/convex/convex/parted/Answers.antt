@@ -1,5 +1,4 @@
 -- `section::convex::convex::parted` meets its contract: one cross product is positive, and another negative.
-use Rattle.arith.proofs.Laws.OrderHeld.{true→T}
 use Rattle.section.specs.convex.Convex.{point_in_convex}
 use Rattle.section.proofs.convex.Flags.{both_somewhere}
 use Rattle.section.proofs.convex.convex.parted.Goals as goal
@@ -15,6 +14,3 @@ unfolding point_in_convex
 returns-then-second c =
     λ t. both_somewhere _ _ _ _ _ c.requires.1 c.requires.0
     (rw (← c.orient_at-second.ensures) c.if-second.true) (rw (← c.orient_at-first.ensures) t)
-
-pub returns : goal.returns
-returns c = λ t. absurd (true→T t)

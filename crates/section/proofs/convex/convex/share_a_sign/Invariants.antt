@@ -1,6 +1,5 @@
 -- `section::convex::convex::share_a_sign` meets its contract: each flag says whether a cross product of an edge below k
 -- lies on its side, and not both are set.
-use Prim.Native.Nat.{◌≤◌, ◌-◌}
 use mathlib.Core.Bool.{false, ◌&&◌}
 use mathlib.Core.Path.{◌≡◌}
 use lib.Ieee.{neg}
@@ -11,10 +10,6 @@ use Rattle.section.proofs.convex.convex.share_a_sign.Given as goal
 
 abbrev pub invariant-loop-k : goal.invariant-loop-k
 invariant-loop-k l =
-    (l.k ≤ l.n)
-    × (l.left ≡ any (λ j. e_9 ≺ orient (vertex_at l.c j) (end_at l.c j) l.p) l.k)
+    (l.left ≡ any (λ j. e_9 ≺ orient (vertex_at l.c j) (end_at l.c j) l.p) l.k)
     × (l.right ≡ any (λ j. orient (vertex_at l.c j) (end_at l.c j) l.p ≺ neg e_9) l.k)
     × ((l.left && l.right) ≡ false)
-
-abbrev pub decreases-loop-k : goal.decreases-loop-k
-decreases-loop-k l = l.n - l.k

@@ -2,9 +2,6 @@
 use Rattle.section.proofs.convex.Window.{gap_found, window_of}
 use Rattle.section.proofs.convex.gap.convex_gap.Goals as goal
 
-pub near_to-to-requires : goal.near_to-to-requires
-near_to-to-requires c = c.near_from-from.ensures.within
-
 pub convex_rows-requires : goal.convex_rows-requires
 convex_rows-requires c =
     window_of _ _ _ _ _ _ c.hull_of-hull.ensures c.near_from-from.ensures c.near_to-to.ensures

@@ -1,22 +1,14 @@
 -- `section::convex::gap::convex_row` meets its contract: a fold over the window's edges, and no other is nearer.
 use native.Mathlib.Omega.{arith}
-use borrow.Author.Rules.{rules}
 use Rattle.section.proofs.profile.Fold.{upto_more, upto_end}
 use Rattle.section.proofs.convex.Window.{row_found}
 use Rattle.section.proofs.convex.gap.convex_row.Goals as goal
 
-pub loop-j-init : goal.loop-j-init
-loop-j-init c = (c.requires.1.order, λ h e. e)
-
-pub nearer_edge-best-requires : goal.nearer_edge-best-requires
-nearer_edge-best-requires c =
-    (omega (arith, c.loop-j-test.true, c.requires.1.within), c.ranges_of-sides.ensures)
-
 pub loop-j-preserved : goal.loop-j-preserved
-loop-j-preserved c = (search rules, λ h e. upto_more _ _ _ (c.loop-j.invariant.1 h e) c.nearer_edge-best.ensures)
+loop-j-preserved c = λ h e. upto_more _ _ _ (c.loop-j.invariant h e) c.nearer_edge-best.ensures
 
 pub returns : goal.returns
 returns c =
     row_found _ _ _ _ _ _ c.requires.0 c.requires.1 c.well_formed.1.1.1.1.1.0.1.1.0.1
     (rw (← c.end_at-b.ensures, ← c.vertex_at-a.ensures)
-    (λ h e. upto_end _ _ _ (c.loop-j.invariant.1 h e) _ (omega (arith, c.requires.1.order))))
+    (λ h e. upto_end _ _ _ (c.loop-j.invariant h e) _ (omega (arith, c.requires.1.order))))

@@ -1,5 +1,4 @@
 -- `section::convex::gap::convex_row` meets its contract: a fold over the window's edges, and no other is nearer.
-use Prim.Native.Nat.{◌≤◌, ◌-◌}
 use Rattle.section.specs.profile.Vertices.{edge_at}
 use Rattle.section.specs.segments.Segments.{segments}
 use Rattle.section.specs.ranges.Search.{FoundFrom}
@@ -7,7 +6,4 @@ use Rattle.section.proofs.convex.gap.convex_row.Given as goal
 
 abbrev pub invariant-loop-j : goal.invariant-loop-j
 invariant-loop-j l =
-    (l.j ≤ l.to) × FoundFrom (λ k. segments (edge_at l.s k) l.a l.b) l.initial.j l.j l.initial.best l.best
-
-abbrev pub decreases-loop-j : goal.decreases-loop-j
-decreases-loop-j l = l.to - l.j
+    FoundFrom (λ k. segments (edge_at l.s k) l.a l.b) l.from l.j l.initial.best l.best

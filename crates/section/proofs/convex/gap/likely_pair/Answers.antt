@@ -10,4 +10,4 @@ returns c =
       ← c.vertex_at-2.ensures,
       ← c.end_at.ensures,
     )
-    (rw c.legless.ensures.0 at c.seg_seg_point_on_first-found.ensures.hit))
+    (rw c.legless.ensures at c.seg_seg_point_on_first-found.ensures))

@@ -16,8 +16,3 @@ returns-then-far_off c =
           (edge_holds a b (record { z = c.well_formed.1.1.0.1.1.0.1; r = c.well_formed.1.1.0.1.1.1.0.1 })))
           (c.far_off.ensures c.if-far_off.true),
     )
-
-pub returns : goal.returns
-returns c =
-    rw (← c.edge_at-edge.ensures)
-    (rw c.legless.ensures.0 at c.seg_seg_point_on_first-found.ensures.hit)

@@ -8,7 +8,7 @@ returns-then-far_from c =
     λ t. far_from_z c.args.least c.well_formed.1.1.1.1.0.1 _ c.args.a c.args.b
     (true→T c.well_formed.1.1.0.1.1.0.1) (true→T c.well_formed.0.1) (c.far_from.ensures c.if-far_from.true)
 
-pub returns : goal.returns
-returns c =
+pub returns-else-far_from : goal.returns-else-far_from
+returns-else-far_from c =
     λ t. far_from_r c.args.least c.well_formed.1.1.1.1.0.1 _ c.args.a c.args.b
-    (true→T c.well_formed.1.1.0.1.1.1.0.1) (true→T c.well_formed.1.0.1) (c.far_from-2.ensures t)
+    (true→T c.well_formed.1.1.0.1.1.1.0.1) (true→T c.well_formed.1.0.1) (c.far_from-else-far_from.ensures t)

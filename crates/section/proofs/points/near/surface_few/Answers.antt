@@ -1,25 +1,15 @@
 -- `section::points::near::surface_few` meets its contract: a fold.
-use native.Mathlib.Omega.{arith}
 use mathlib.Core.Path.{refl}
-use borrow.Author.Rules.{rules}
 use Rattle.section.specs.profile.Vertices.{upto}
-use Rattle.section.proofs.profile.Fold.{upto_more, upto_end}
+use Rattle.section.proofs.profile.Fold.{upto_more}
 use Rattle.section.proofs.points.Surface.{stepped}
 use Rattle.section.proofs.points.near.surface_few.Goals as goal
 
 pub loop-k-init : goal.loop-k-init
 unfolding upto
-loop-k-init c = (search rules, refl, c.legless-best.ensures.1)
+loop-k-init c = refl
 
 pub loop-k-preserved : goal.loop-k-preserved
-loop-k-preserved c = (
-  search rules,
-  upto_more _ _ _ c.loop-k.invariant.1
-      (stepped _ _ _ _ _ c.edge_at-edge.ensures c.edge_is_surface.ensures
-      c.surface_edge-best.ensures.0),
-  c.surface_edge-best.ensures.1,
-)
-
-pub returns : goal.returns
-returns c =
-    rw (← c.legless-best.ensures.0) (upto_end _ _ _ c.loop-k.invariant.1 _ (omega arith))
+loop-k-preserved c =
+    upto_more _ _ _ c.loop-k.invariant
+    (stepped _ _ _ _ _ c.edge_at-edge.ensures c.edge_is_surface.ensures c.surface_edge-best.ensures)

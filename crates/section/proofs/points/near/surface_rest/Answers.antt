@@ -8,6 +8,6 @@ pub returns : goal.returns
 returns c =
     surface_met_first _ _ _ c.no_edge.ensures _ c.requires.0 _ _
     c.requires.1
-    (subst (StartOver _ _) (sym c.legless-start.ensures.0)
-    c.start_over.ensures) c.surface_from-before.ensures.0
-    c.nearer_near-best.ensures.hit c.surface_from-found.ensures.0
+    (subst (StartOver _ _) (sym c.legless-start.ensures)
+    c.start_over.ensures) c.surface_from-before.ensures
+    c.nearer_near-best.ensures c.surface_from-found.ensures

@@ -8,13 +8,7 @@ pub deeper_inside-requires : goal.deeper_inside-requires
 deeper_inside-requires c =
     (c.requires.0, odd_inside _ _ (sym c.requires.1 ∙ c.if-odd.true), c.if-best.true)
 
-pub returns-then-odd : goal.returns-then-odd
-returns-then-odd c = c.deeper_inside.ensures
-
 pub returns-then-not-p : goal.returns-then-not-p
 returns-then-not-p c =
     let outside = off_axis_lem _ _ (sym c.requires.1 ∙ c.if-odd.false) c.if-not-p.true in
     rw (point_outside _ c.if-best.true _ _ outside)
-
-pub returns : goal.returns
-returns c = c.deeper_at.ensures

@@ -6,6 +6,3 @@ pub returns-then-unparted : goal.returns-then-unparted
 returns-then-unparted c =
     odd_kept _ _ c.requires.1 _ c.args.s.now c.args.k c.vertex_at-a.ensures
     c.end_at-b.ensures (c.unparted.ensures c.if-unparted.true)
-
-pub returns : goal.returns
-returns c = rw (← c.edge_at.ensures) c.odd_next.ensures

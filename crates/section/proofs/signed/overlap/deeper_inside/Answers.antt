@@ -7,7 +7,7 @@ use Rattle.section.proofs.signed.overlap.deeper_inside.Goals as goal
 pub returns-then-first-best : goal.returns-then-first-best
 returns-then-first-best c =
     no_deeper _ _ c.requires.1 _ c.requires.2 _ c.likely_edge_at-k.ensures
-    (true→T c.well_formed.1.1.0.1.1.0.1) c.surface_first-first.ensures.0 c.if-first-best.true
+    (true→T c.well_formed.1.1.0.1.1.0.1) c.surface_first-first.ensures c.if-first-best.true
 
 pub returns-then-depth : goal.returns-then-depth
 returns-then-depth c =

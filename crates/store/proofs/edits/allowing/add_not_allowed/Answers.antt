@@ -8,4 +8,4 @@ returns-in-Setter c = rw c.in-Setter.is
 
 pub returns-in-Operator : goal.returns-in-Operator
 unfolding not_allowed
-returns-in-Operator c = rw (c.in-Operator.is, ← c.kind_of.ensures)
+returns-in-Operator c = rw (c.in-Operator.is, ← c.is_kind.ensures)

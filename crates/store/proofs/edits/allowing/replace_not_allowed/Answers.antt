@@ -11,10 +11,10 @@ pub returns-then-k-eq0 : goal.returns-then-k-eq0
 unfolding not_allowed
 returns-then-k-eq0 c = rw (c.in-Operator.is, eq-eqb _ _ c.if-k-eq0.true)
 
-pub returns-then-kind_of-eq1 : goal.returns-then-kind_of-eq1
+pub returns-then-is_kind : goal.returns-then-is_kind
 unfolding not_allowed
-returns-then-kind_of-eq1 c =
-    rw (c.in-Operator.is, ne_eqb _ _ c.if-k-eq0.false, ← c.kind_of.ensures, eq-eqb _ _ c.if-kind_of-eq1.true)
+returns-then-is_kind c =
+    rw (c.in-Operator.is, ne_eqb _ _ c.if-k-eq0.false, c.if-is_kind.true, ← c.if-is_kind.ensures)
 
 pub returns-then-next_of : goal.returns-then-next_of
 unfolding not_allowed
@@ -22,23 +22,20 @@ returns-then-next_of c =
     rw (
       c.in-Operator.is,
       ne_eqb _ _ c.if-k-eq0.false,
-      ← c.kind_of.ensures,
-      ne_eqb _ _ c.if-kind_of-eq1.false,
+      ← c.if-is_kind.ensures,
       ← c.next_of.ensures,
-      ← c.next_of-in-Operator.ensures,
-      eq-eqb _ _ c.if-next_of.true,
-      ← c.kind_of-then-next_of.ensures,
+      ← c.next_of-else-is_kind.ensures,
+      ne_eqb _ _ c.if-next_of.true,
     )
 
-pub returns-in-Operator : goal.returns-in-Operator
+pub returns-else-next_of : goal.returns-else-next_of
 unfolding not_allowed
-returns-in-Operator c =
+returns-else-next_of c =
     rw (
       c.in-Operator.is,
       ne_eqb _ _ c.if-k-eq0.false,
-      ← c.kind_of.ensures,
-      ne_eqb _ _ c.if-kind_of-eq1.false,
+      ← c.if-is_kind.ensures,
       ← c.next_of.ensures,
-      ← c.next_of-in-Operator.ensures,
-      ne_eqb _ _ c.if-next_of.false,
-    )
+      ← c.next_of-else-is_kind.ensures,
+      eq-eqb _ _ c.if-next_of.false,
+    ) c.is_kind-else-next_of.ensures

@@ -1,5 +1,5 @@
 -- `store::edits::searching::lowest` meets its contract: the search goes on from m as it would from 0, by the marks.
-use Prim.Native.Nat.{◌-◌, ◌≤◌}
+use Prim.Native.Nat.{◌-◌}
 use mathlib.Core.Path.{◌≡◌}
 use Rattle.store.specs.edits.Written.{lowest_from}
 use Rattle.store.specs.edits.Steps.{Marked}
@@ -7,7 +7,4 @@ use Rattle.store.proofs.edits.searching.lowest.Given as goal
 
 abbrev pub invariant-loop-m : goal.invariant-loop-m
 invariant-loop-m l =
-    (l.m ≤ l.count) × (lowest_from l.order l.count 0 ≡ lowest_from l.order (l.count - l.m) l.m) × Marked l.order l.marks
-
-abbrev pub decreases-loop-m : goal.decreases-loop-m
-decreases-loop-m l = l.count - l.m
+    (lowest_from l.order l.count 0 ≡ lowest_from l.order (l.count - l.m) l.m) × Marked l.order l.marks

@@ -1,31 +1,9 @@
 -- `store::store_edits::editing::edit_store` meets its contract.
-use mathlib.Core.Path.{sym, ◌∙◌}
-use Rattle.store.proofs.edits.Decided.{refused_space, at_place}
-use borrow.Author.Rules.{rules}
+use mathlib.Core.Path.{sym}
+use Rattle.store.proofs.Handed.{handed_on}
+use Rattle.store.proofs.edits.Decided.{refused_space}
 use Rattle.store.proofs.store_edits.editing.edit_store.Goals as goal
 
-pub replace-requires : goal.replace-requires
-replace-requires c = (
-  sym c.space_answer-judged.ensures
-      ∙ c.in-Accepted.is,
-  search rules,
-)
-
-pub add-requires : goal.add-requires
-add-requires c = (
-  sym c.space_answer-judged.ensures
-      ∙ c.in-Accepted.is,
-  search rules,
-)
-
-pub returns-in-Refused : goal.returns-in-Refused
-returns-in-Refused c =
-    refused_space _ _ _ _ _ (sym c.space_answer-judged.ensures ∙ c.in-Refused.is)
-
-pub returns-in-Record : goal.returns-in-Record
-returns-in-Record c =
-    at_place c.in-Record.is c.replace.ensures
-
-pub returns-in-Add : goal.returns-in-Add
-returns-in-Add c =
-    at_place c.in-Add.is c.add.ensures
+pub returns-in_err-space_answer : goal.returns-in_err-space_answer
+returns-in_err-space_answer c =
+    rw (handed_on _ c.from_residual.ensures) (refused_space _ _ _ _ _ (sym c.in_err-space_answer.ensures))

@@ -10,35 +10,34 @@ pub slice_bounds-holds-end : goal.slice_bounds-holds-end
 slice_bounds-holds-end c =
     simp length-take (omega (arith, c.chain_of-count.ensures.1))
 
+pub returns-then-not-holds : goal.returns-then-not-holds
+returns-then-not-holds c =
+    replace_24 _ _ _ _ _ c.requires c.chain_of-count.ensures.0
+    (sym c.holds.ensures ∙ c.if-not-holds.true)
+
 pub slice_bounds-replace_not_allowed-end : goal.slice_bounds-replace_not_allowed-end
 slice_bounds-replace_not_allowed-end c =
-    omega (arith, front_fits _ _ c.requires.0)
+    omega (arith, front_fits _ _ c.requires)
 
-pub slice_bounds-replace_not_allowed-end-then-holds : goal.slice_bounds-replace_not_allowed-end-then-holds
-slice_bounds-replace_not_allowed-end-then-holds c =
-    simp length-take (omega (arith, front_fits _ _ c.requires.0))
+pub slice_bounds-replace_not_allowed-end-2 : goal.slice_bounds-replace_not_allowed-end-2
+slice_bounds-replace_not_allowed-end-2 c =
+    simp length-take (omega (arith, front_fits _ _ c.requires))
 
 pub returns-then-replace_not_allowed : goal.returns-then-replace_not_allowed
 returns-then-replace_not_allowed c =
-    replace_22 _ _ _ _ _ c.requires.0 c.chain_of-count.ensures.0
-    (sym c.holds.ensures ∙ c.if-holds.true)
+    replace_22 _ _ _ _ _ c.requires c.chain_of-count.ensures.0
+    (sym c.holds.ensures ∙ c.if-not-holds.false)
     (sym c.replace_not_allowed.ensures ∙ c.if-replace_not_allowed.true)
 
 pub try_replace-requires : goal.try_replace-requires
 try_replace-requires c = (
-  (right_space _ _ c.requires.0).0,
-  c.requires.1,
-  chained_small _ _ c.requires.0 c.chain_of-count.ensures.0 (sym c.holds.ensures ∙ c.if-holds.true),
+  (right_space _ _ c.requires).0,
+  chained_small _ _ c.requires c.chain_of-count.ensures.0 (sym c.holds.ensures ∙ c.if-not-holds.false),
 )
-
-pub returns-then-holds : goal.returns-then-holds
-returns-then-holds c =
-    replace_done _ _ _ _ _ c.requires.0 c.chain_of-count.ensures.0
-    (sym c.holds.ensures ∙ c.if-holds.true)
-    (sym c.replace_not_allowed.ensures ∙ c.if-replace_not_allowed.false)
-    c.try_replace.ensures
 
 pub returns : goal.returns
 returns c =
-    replace_24 _ _ _ _ _ c.requires.0 c.chain_of-count.ensures.0
-    (sym c.holds.ensures ∙ c.if-holds.false)
+    replace_done _ _ _ _ _ c.requires c.chain_of-count.ensures.0
+    (sym c.holds.ensures ∙ c.if-not-holds.false)
+    (sym c.replace_not_allowed.ensures ∙ c.if-replace_not_allowed.false)
+    c.try_replace.ensures

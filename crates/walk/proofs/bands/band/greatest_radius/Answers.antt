@@ -14,15 +14,3 @@ returns-then-y0-y1 c =
       ← c.farthest_from_zero-then-y0-y1.ensures,
       ← c.hypot.ensures,
     )
-
-pub returns : goal.returns
-returns c =
-    rw (
-      ← c.hypot-2.ensures,
-      ← c.hypot-3.ensures,
-      ← c.max-first.ensures,
-      ← c.hypot-4.ensures,
-      ← c.max-second.ensures,
-      ← c.hypot-5.ensures,
-      ← c.max.ensures,
-    )

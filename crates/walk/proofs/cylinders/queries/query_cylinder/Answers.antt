@@ -1,5 +1,7 @@
--- `walk::cylinders::queries::query_cylinder` meets its contract: the number or the hit, and demands 1 and 3 of it.
-use Rattle.section.proofs.profile.Replies.{answered, refused}
+-- `walk::cylinders::queries::query_cylinder` meets its contract: the refusal or the hit, and demands 1 and 3 of it.
+use mathlib.Core.Path.{refl}
+use Rattle.section.proofs.profile.Numbered.{handed_on}
+use Rattle.section.proofs.profile.Replies.{answered, refused_answer, value_answer}
 use Rattle.walk.specs.settings.Settings.{settings_tests}
 use Rattle.walk.specs.cylinders.Cylinders.{cylinder_answer}
 use Rattle.walk.specs.cylinders.Promised.{Promised}
@@ -7,31 +9,26 @@ use Rattle.walk.proofs.cylinders.Given.{is_f64, query_measurable}
 use Rattle.walk.proofs.cylinders.Promise.{promised}
 use Rattle.walk.proofs.cylinders.queries.query_cylinder.Goals as goal
 
-pub returns-then-check-ne0 : goal.returns-then-check-ne0
+pub returns-in_err-cylinder_refusal : goal.returns-in_err-cylinder_refusal
 unfolding cylinder_answer
-returns-then-check-ne0 c =
-    let checked = c.cylinder_check-check.ensures.1 in
-    let number = c.settings_refusal.ensures in
+returns-in_err-cylinder_refusal c =
+    let checked = c.in_err-cylinder_refusal.ensures in
     let t = c.args.settings in
     let f64 = is_f64 t.tolerance c.well_formed.1.1.0.1.1.0.1 in
     answered (Promised _ _ t) (promised _ _ t checked.f64s f64)
-    (rw (← checked.number (settings_tests t) tt number) (refused _ _ c.if-check-ne0.true))
+    (rw (handed_on c.from_residual.result c.from_residual.ensures)
+    (refused_answer _ _ (checked.number (settings_tests t) tt c.settings_refusal.ensures)))
 
 pub cylinder_distance-requires : goal.cylinder_distance-requires
 cylinder_distance-requires c =
-    let check = c.cylinder_check-check.ensures in
-    let number = c.settings_refusal.ensures in
-    query_measurable (is_f64 _ c.well_formed.1.1.0.1.1.0.1) check.0 check.1 number c.if-check-ne0.false
+    query_measurable (is_f64 _ c.well_formed.1.1.0.1.1.0.1) c.axis_of-axis.ensures c.in_ok-cylinder_refusal.ensures
+    c.settings_refusal.ensures refl
 
 pub returns : goal.returns
 unfolding cylinder_answer
 returns c =
-    let checked = c.cylinder_check-check.ensures.1 in
+    let checked = c.in_ok-cylinder_refusal.ensures in
     let t = c.args.settings in
     let f64 = is_f64 t.tolerance c.well_formed.1.1.0.1.1.0.1 in
     answered (Promised _ _ t) (promised _ _ t checked.f64s f64)
-    (rw (
-      ← checked.number (settings_tests t) tt c.settings_refusal.ensures,
-      c.if-check-ne0.false,
-      c.cylinder_distance.ensures,
-    ))
+    (value_answer (checked.number (settings_tests t) tt c.settings_refusal.ensures) c.cylinder_distance.ensures)

@@ -1,63 +1,56 @@
--- `walk::walker::walker::walk_with`. Array and locals are a state of the definition's walk, from start to end.
+-- `walk::walker::walker::walk_with`. The locals are a state of the definition's walk, from start to end.
 use native.Mathlib.Omega.{arith}
-use mathlib.Core.Path.{refl, ◌∙◌}
-use Rattle.walk.proofs.pieces.KnownEnds.{held_first, taken, held_next}
+use mathlib.Core.Path.{◌≡◌, refl, sym, ap, ◌∙◌}
+use lib.ListN.{length}
+use Rattle.walk.specs.pieces.Steps.{pieces}
+use Rattle.walk.specs.declared.pieces.shapes.Part.{Part}
+use Rattle.std.proofs.lemmas.List.{length-map}
 use Rattle.walk.proofs.Loop.{begun, ended, cut_short, has_box, has_room, turned}
+use Rattle.walk.proofs.walker.walker.walk_with.Goals.{then-halved, else-halved}
 use Rattle.walk.proofs.walker.walker.walk_with.Goals as goal
 
-pub loop-n-init : goal.loop-n-init
-loop-n-init c =
-    let pushed = c.push-n.ensures in
-    let whole = c.whole_width-whole.ensures in (
-      begun _ pushed whole c.sampled-best.ensures c.infinity-least.ensures,
-      held_first _ refl pushed c.ends_of-ends.ensures,
-    )
+pub loop-part-init : goal.loop-part-init
+loop-part-init c =
+    rw (c.push.ensures, c.new-waiting.ensures, c.whole-whole.ensures)
+    (record {
+      state = begun c.start-so_far.ensures c.sampled.ensures;
+      known = (rw (c.cross_at-right.ensures, c.whole-whole.ensures), refl, tt);
+    })
 
-pub returns-then-boxes-cap : goal.returns-then-boxes-cap
-returns-then-boxes-cap c =
-    let state = c.loop-n.invariant.0 in
-    cut_short state c.loop-n-test.true c.if-boxes-cap.true c.cut_off.ensures
+pub returns-then-so_far-cap : goal.returns-then-so_far-cap
+returns-then-so_far-cap c =
+    c.cut_off.ensures
+    ∙ cut_short c.loop-part.invariant.state (ap pieces c.in-Some.ensures) c.if-so_far-cap.true
 
-pub measure-m-requires : goal.measure-m-requires
-measure-m-requires c =
-    record { vertices = c.requires.vertices; known = taken c.loop-n.invariant.1 c.loop-n-test.true }
+pub push_halves-requires : goal.push_halves-requires
+push_halves-requires c =
+    let state = c.loop-part.invariant.state in
+    let left = has_box state c.if-so_far-cap.false in
+    let room = has_room state (ap pieces c.in-Some.ensures) left c.measure-m.ensures c.halved.ensures c.requires.room c.if-halved.true in
+    omega (arith, length-map c.pop.new.self (λ (p : Part). p.piece), room)
 
-pub push_halves-n-requires : goal.push_halves-n-requires
-push_halves-n-requires c =
-    let state = c.loop-n.invariant.0 in
-    let left = has_box state c.if-boxes-cap.false in
-    let measured = c.measure-m.ensures in
-    record {
-      few = omega (arith, state.few);
-      both = has_room state c.loop-n-test.true left measured c.halved-halve.ensures c.requires.room;
-      stored = state.stored;
-    }
-
-pub next_ends-ends-requires : goal.next_ends-ends-requires
-next_ends-ends-requires c =
-    let some = c.loop-n-test.true in
-    (omega (arith, c.loop-n.invariant.0.few, some), c.loop-n.invariant.1.stored)
-
-pub overflow_add-boxes : goal.overflow_add-boxes
-overflow_add-boxes c =
-    omega (arith, has_box c.loop-n.invariant.0 c.if-boxes-cap.false, c.ranges.cap)
-
-pub loop-n-smaller : goal.loop-n-smaller
-loop-n-smaller c =
-    omega (arith, has_box c.loop-n.invariant.0 c.if-boxes-cap.false)
-
-pub loop-n-preserved : goal.loop-n-preserved
-loop-n-preserved c =
-    let state = c.loop-n.invariant.0 in
-    let held = c.loop-n.invariant.1 in
-    let some = c.loop-n-test.true in
-    let left = has_box state c.if-boxes-cap.false in
-    let measured = c.measure-m.ensures in
-    let pushed = c.push_halves-n.ensures in (
-      rw (c.larger-most.ensures, c.min-least.ensures, c.better-best.ensures)
-          (turned state some left measured c.halved-halve.ensures pushed),
-      held_next held some c.next_ends-ends.ensures pushed,
-    )
+pub loop-part-preserved : goal.loop-part-preserved
+loop-part-preserved c =
+    let state = c.loop-part.invariant.state in
+    let known = rw c.in-Some.ensures at c.loop-part.invariant.known in
+    let left = has_box state c.if-so_far-cap.false in
+    let count : c.len.result ≡ length (pieces c.if-halved.waiting) = c.len.ensures ∙ sym (length-map _ _) in
+    rw c.count.ensures
+    (elim c.if-halved.branch [
+      | then-halved w ↦
+          let next = w.waiting-is ∙ w.push_halves.ensures in
+          record {
+            state = turned state (ap pieces c.in-Some.ensures) left c.measure-m.ensures
+                (sym w.if-halved.true ∙ c.halved.ensures) (ap pieces next) count;
+            known = rw (next, w.right-is) (known.0, refl, (refl, known.1, known.2));
+          }
+      | else-halved w ↦
+          record {
+            state = turned state (ap pieces c.in-Some.ensures) left c.measure-m.ensures
+                (sym w.if-halved.false ∙ c.halved.ensures) (ap pieces w.waiting-is) count;
+            known = rw (w.waiting-is, w.right-is) known.2;
+          }
+    ])
 
 pub returns : goal.returns
-returns c = c.uncut.ensures ∙ ended c.loop-n.invariant.0 c.loop-n-test.false
+returns c = c.uncut.ensures ∙ ended c.loop-part.invariant.state (ap pieces c.in_default.ensures)

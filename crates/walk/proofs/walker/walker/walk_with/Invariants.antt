@@ -1,13 +1,16 @@
--- `walk::walker::walker::walk_with`. Array and locals are a state of the definition's walk, from start to end.
+-- `walk::walker::walker::walk_with`. The locals are a state of the definition's walk, from start to end.
 use Prim.Native.Nat.{◌-◌}
-use Rattle.walk.proofs.pieces.KnownEnds.{Held}
+use Rattle.walk.specs.pieces.Steps.{pieces, Known}
 use Rattle.walk.proofs.Loop.{State}
 use Rattle.walk.proofs.walker.walker.walk_with.Given as goal
 
-abbrev pub invariant-loop-n : goal.invariant-loop-n
-invariant-loop-n l =
-    State l.s l.b l.tol l.cap l.intervals l.waiting l.n l.boxes l.most l.least l.best × Held l.b l.lefts l.ends l.waiting l.n
+abbrev pub invariant-loop-part : goal.invariant-loop-part
+invariant-loop-part l =
+    record {
+      state : State l.s l.b l.t.tolerance l.t.most l.t.intervals (pieces l.waiting) l.so_far;
+      known : Known l.b l.right l.waiting;
+    }
 
-abbrev pub decreases-loop-n : goal.decreases-loop-n
-decreases-loop-n l =
-    l.cap - l.boxes
+abbrev pub decreases-loop-part : goal.decreases-loop-part
+decreases-loop-part l =
+    l.t.most - l.so_far.boxes

@@ -1,8 +1,0 @@
-// What listing a store answers.
-
-// How many bytes the listing has, or the refusal.
-#[derive(Clone, Copy)]
-pub enum ListAnswer {
-    Bytes(usize),
-    Refused(u32, u32),
-}

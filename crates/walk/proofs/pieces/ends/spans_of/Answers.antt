@@ -1,5 +1,0 @@
--- `walk::pieces::ends::spans_of` meets its contract.
-use Rattle.walk.proofs.pieces.ends.spans_of.Goals as goal
-
-pub returns : goal.returns
-returns c = rw (c.widest_of.ensures, c.narrowest_of.ensures)
