@@ -26,10 +26,10 @@ from concurrent.futures import ThreadPoolExecutor
 from queue import Queue
 
 FN = re.compile(r'^( *)(?:pub )?(?:const )?(?:extern "C" )?fn (\w+)', re.M)
-IMPL = re.compile(r'^impl(?:<[^>]*>)? (\w+)', re.M)
+IMPL = re.compile(r'^impl(?:<[^>]*>)? ([^{\n]+?)(?: where .*)? \{', re.M)
 ERROR = re.compile(r'^(?:so far: )?(?:\./)?(\S+?\.(?:antt|rt)):(\d+):\d+: error: (.*)$', re.M)
 OPEN = re.compile(r'^note: (?:\./)?(\S+?\.rt):\d+:\d+: it is not (?:proved|known) (.*)$', re.M)
-NAMES = re.compile(r'has no field|is not in scope|has no `|no such (?:goal|name)|that can be named from here')
+NAMES = re.compile(r'has no field|is not in scope|has no `|no such (?:goal|name)|that can be named from here|\(nearest: ')
 MISSING = re.compile(r'(?:has no (?:field )?|`goal\.)`?([\w+-]+)`')
 GOAL = re.compile(r'\(`([^`]+)`\)')
 CARRIED = re.compile(r'was not admitted|were not admitted|was rejected|were rejected|this file exports no')
@@ -75,7 +75,14 @@ def function_at(text, at):
         return None                          # it ended before
     name = [k.group(2)]
     impl = [i for i in IMPL.finditer(text) if i.start() < k.start()] if k.group(1) else []
-    return [impl[-1].group(1)] + name if impl else name
+    return [impl_name(impl[-1].group(1))] + name if impl else name
+
+
+def impl_name(head):
+    """What the prover calls an impl: `From<bool> for Verdict` is VerdictFromBool, an impl of a type's own the type."""
+    trait, _, of = head.rpartition(' for ')
+    words = re.findall(r'\w+', (of.split('<')[0] if not trait else of + ' ' + trait).replace('()', ' Unit '))
+    return ''.join(word[0].upper() + word[1:] for word in words)
 
 
 def module_of(file):

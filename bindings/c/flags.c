@@ -2,6 +2,7 @@
  * where they differ. An emulator such as valgrind may keep no flags. */
 #include "jorghipa.h"
 #include <fenv.h>
+#include <math.h>
 #include <stdio.h>
 
 static const double BAR[8] = {0, 10, 20, 10, 20, 0, 0, 0};
@@ -33,8 +34,16 @@ static int cylinder(const char *what, double dx, double dz, uint32_t number, int
                                         &z, &radius, &edge, &boxes, &waiting, &cut), number, named);
 }
 
+static int hypotenuse(const char *what, double a, double b, int named) {
+    feclearexcept(FE_ALL_EXCEPT);
+    distance = jorghipa_hypot(a, b);
+    return look(what, 0, 0, named);
+}
+
 int main(void) {
     int wrong = 0;
+    wrong |= hypotenuse("hypotenuse of infinity and 1", INFINITY, 1, 0);
+    wrong |= hypotenuse("hypotenuse of infinity and NaN", -INFINITY, NAN, 0);
     wrong |= point("point off the axis", 3, 4, 0);
     wrong |= point("point on the axis", 0, 0, 0);
     wrong |= point("point at x = y = 1e-200", 1e-200, 1e-200, FE_UNDERFLOW);

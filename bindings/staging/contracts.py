@@ -82,8 +82,11 @@ def specs(crate, module):
 def declared(crate, module, name):
     """The text of a struct or an enum, with the comment before it."""
     source = (ROOT / "crates" / crate / "src" / (module.replace(".", "/") + ".rt")).read_text()
-    pattern = rf"((?:^//.*\n)*(?:^#\[.*\n)*^pub (?:struct|enum) {name} \{{[\s\S]*?^\}}\n)"
-    return re.search(pattern, source, re.M).group(1)
+    pattern = rf"((?:^//.*\n)*(?:^#\[.*\n)*^pub (?:struct|enum) {name}(?:<[^>\n]*>)? \{{[\s\S]*?^\}}\n)"
+    found = re.search(pattern, source, re.M)
+    if not found:
+        sys.exit(f"crates/{crate}/src/{module}: no type {name} in the form that is looked for")
+    return found.group(1)
 
 
 def order(crate, node="Lib", above=""):

@@ -4,7 +4,7 @@ use Prim.Native.Nat.{◌*◌, ◌%◌, ◌<◌}
 use native.Mathlib.Omega.{arith}
 use mathlib.Core.Bool.{true, false}
 use mathlib.Core.List.{List, [], ◌∷◌, ◌++◌}
-use mathlib.Core.Path.{◌≡◌, refl}
+use mathlib.Core.Path.{◌≡◌, refl, ap}
 use lib.ListN.{length}
 use lib.Ieee.{Float}
 use borrow.Author.Tests.{ne_eqb, le-ltb, lt-ltb}
@@ -19,6 +19,11 @@ use Rattle.section.specs.declared.profile.shapes.Vertex.{Vertex}
 use Rattle.walk.specs.cylinders.Cylinders.{cylinder_answer}
 use Rattle.walk.specs.declared.bands.shapes.Cylinder.{Cylinder}
 use Rattle.records.specs.Flattened.{flattened}
+use Rattle.records.specs.Replies.{point_of, sphere_of, box_of, cylinder_of, c_reply, c_cylinder_reply}
+use Rattle.records.specs.declared.replies.Ball.{Ball}
+use Rattle.records.specs.declared.replies.Bar.{Bar}
+use Rattle.records.specs.declared.replies.Bounds.{Bounds}
+use Rattle.records.specs.declared.replies.Place.{Place}
 use Rattle.section.specs.Demand.{Bounded, BoundedOffAxis}
 use Rattle.walk.specs.cylinders.Promised.{Promised}
 use Rattle.walk.specs.settings.Settings.{finest}
@@ -54,3 +59,16 @@ module _ (xs : List Vertex) (h : 256 < length xs) where
   pub cylinder_too_many : (c : Cylinder) → Answers (turned_down 3) (cylinder_answer (flattened xs) c finest) (Promised (flattened xs) c finest)
   unfolding cylinder_answer
   cylinder_too_many c = record { equal = rw (number_three _ _); owed = tt }
+
+  -- the same of the C interface's replies
+  pub place_too_many : (x : Place) → c_reply (turned_down 3) ≡ c_reply (point_answer (flattened xs) (point_of x))
+  place_too_many x = ap c_reply (point_too_many (point_of x)).equal
+
+  pub ball_too_many : (x : Ball) → c_reply (turned_down 3) ≡ c_reply (sphere_answer (flattened xs) (sphere_of x))
+  ball_too_many x = ap c_reply (sphere_too_many (sphere_of x)).equal
+
+  pub bounds_too_many : (x : Bounds) → c_reply (turned_down 3) ≡ c_reply (box_answer (flattened xs) (box_of x))
+  bounds_too_many x = ap c_reply (box_too_many (box_of x)).equal
+
+  pub bar_too_many : (x : Bar) → c_cylinder_reply (turned_down 3) ≡ c_cylinder_reply (cylinder_answer (flattened xs) (cylinder_of x) finest)
+  bar_too_many x = ap c_cylinder_reply (cylinder_too_many (cylinder_of x)).equal

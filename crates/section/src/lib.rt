@@ -5,6 +5,7 @@ mod aabb;
 mod boxes;
 mod builders;
 mod convex;
+mod outcomes;
 pub mod points;
 mod probes;
 pub mod profile;
@@ -18,6 +19,7 @@ mod signed;
 pub use builders::{
     check_polygon, check_section, try_from_polygon, try_from_section, write_polygon, write_section,
 };
+pub use outcomes::Outcome;
 pub use profile::{Aabb, CollisionHit, Edge, Sphere, Vertex, Witness};
 pub use queries::{aabb_polygon_distance, convex_polygon_distance, query_sphere, signed_distance};
 pub use refusals::{

@@ -37,14 +37,15 @@ pub fn is_kind(store: &[u8], k: u32, wanted: Kind) -> bool
     kind_of(store, k) == wanted.number()
 }
 
+#[tactic(auto, unfolding(crate::specs::Kinds::right_kind))]
 fn right_kind(store: &[u8], k: u32) -> bool
     ensures { result ≡ right_kind store.now k }
 {
+    let kind = kind_of(store, k);
     if k == 0 {
-        return is_kind(store, k, Kind::Start);
+        return kind == Kind::Start.number();
     }
-    is_kind(store, k, Kind::Vertex)
-        || (is_kind(store, k, Kind::Sphere) || is_kind(store, k, Kind::Box))
+    kind == Kind::Vertex.number() || kind == Kind::Sphere.number() || kind == Kind::Box.number()
 }
 
 // The first record of a wrong kind, in chain order.

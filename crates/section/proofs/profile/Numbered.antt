@@ -1,7 +1,8 @@
 -- No refusal has the number 0; a refusal that is handed on stays what it is.
 use native.Mathlib.Omega.{arith}
-use mathlib.Core.Path.{◌≡◌, ap}
-use Rattle.std.specs.Prelude.{Result, Ok, Err, IsErr, IsErrAnd}
+use mathlib.Core.Path.{◌≡◌, ◌∙◌, ap, sym}
+use Rattle.std.specs.Prelude.{ℕ, Bool, true, false, ◌<◌, ◌≤◌, ltb, Result, Ok, Err, IsErr, IsErrAnd}
+use Rattle.std.proofs.lemmas.Bool.{ltb-true, ltb-false}
 use Rattle.section.specs.declared.shapes.Refusal.{Refusal}
 use Rattle.section.specs.declared.shapes.Refusal.TheVariants as refusals
 use Rattle.section.specs.profile.Numbers.{refusal_number}
@@ -31,6 +32,13 @@ above_zero refusals.BadLoad e = omega arith
 above_zero refusals.SettersEdit e = omega arith
 above_zero refusals.StoreFull e = omega arith
 above_zero refusals.NoSuchRecord e = omega arith
+
+-- an outcome's number, by its test
+pub is_above : {b : Bool} {n : ℕ} → b ≡ ltb 0 n → b ≡ true → n ≡ 0 → ⊥
+is_above {b} {n} e t z = let h : 0 < n = ltb-true _ _ (sym e ∙ t) in omega arith
+
+pub is_none : {b : Bool} {n : ℕ} → b ≡ ltb 0 n → b ≡ false → n ≡ 0
+is_none {b} {n} e f = let h : n ≤ 0 = ltb-false _ _ (sym e ∙ f) in omega arith
 
 -- by `?`
 pub handed_on : {A : Type 0} {e : Refusal} (r : Result A Refusal) → IsErr r × IsErrAnd r (λ (y : Refusal). y ≡ e) → r ≡ Err e

@@ -6,8 +6,8 @@ ghost use Rattle.section.specs.profile.Refusals.{refusal, any_of};
 ghost use Rattle.section.specs.profile.Steps.{beyond_limit, or_else, WithSettings};
 
 use super::fine::numbers_fine;
-use crate::Refusal;
 use crate::profile::{Aabb, Sphere};
+use crate::{Outcome, Refusal};
 use arith::Vec3;
 
 // Some number passes the test.
@@ -153,12 +153,15 @@ pub fn bounds_refusal(x: Aabb) -> Result<(), Refusal>
 }
 
 // A body alone: numbers 4 and 5, then its own.
-pub fn alone_refusal(numbers: &[f64], own: Result<(), Refusal>) -> Result<(), Refusal>
-    ensures { refused_by result ≡ or_else (refusal (refusals.number_tests numbers.now)) (refused_by own) }
+pub fn alone_refusal<R: Outcome>(numbers: &[f64], own: R) -> R
+    ensures { R.number result ≡ or_else (refusal (refusals.number_tests numbers.now)) (R.number own) }
 {
     if any_beyond_limit(numbers) {
         let none = [0.0; 0];
-        numbers_refusal(numbers, &none, &none)?;
+        let of_body = R::of(numbers_refusal(numbers, &none, &none));
+        if of_body.is_refused() {
+            return of_body;
+        }
         return own;
     }
     own
@@ -178,35 +181,39 @@ pub fn any_below_axis(l: &[f64]) -> bool
 }
 
 // Number 6 of a section; then the body's own.
-fn axis_refusal(s: &[f64], own: Result<(), Refusal>) -> Result<(), Refusal>
-    ensures { refused_by result ≡ or_else (refusal (refusals.axis_tests s.now)) (refused_by own) }
+fn axis_refusal<R: Outcome>(s: &[f64], own: R) -> R
+    ensures { R.number result ≡ or_else (refusal (refusals.axis_tests s.now)) (R.number own) }
 {
     if any_below_axis(s) {
-        return Err(Refusal::RadiusBelowAxis);
+        return R::of(Err(Refusal::RadiusBelowAxis));
     }
     own
 }
 
 // A section of 3 to 256 vertices, a body's numbers and more that are given; then what is turned
 // down of the call's settings, then of the section's radii, then of the body.
-pub fn body_refusal(
-    s: &[f64],
-    numbers: &[f64],
-    extra: &[f64],
-    settings: Result<(), Refusal>,
-    own: Result<(), Refusal>,
-) -> Result<(), Refusal>
+pub fn body_refusal<R: Outcome>(s: &[f64], numbers: &[f64], extra: &[f64], settings: R, own: R) -> R
     ensures { let l = s.now in
         let given = refusals.given_tests (l ∷ []) (l ++ (numbers.now ++ extra.now)) in
-        refused_by result ≡ or_else (refusal given) (or_else (refused_by settings) (or_else (refusal (refusals.axis_tests l)) (refused_by own))) }
+        R.number result ≡ or_else (refusal given) (or_else (R.number settings) (or_else (refusal (refusals.axis_tests l)) (R.number own))) }
 {
-    shape_refusal(s, 3, 256)?;
+    let of_shape = R::of(shape_refusal(s, 3, 256));
+    if of_shape.is_refused() {
+        return of_shape;
+    }
     if numbers_fine(s, numbers, extra) {
-        settings?;
+        if settings.is_refused() {
+            return settings;
+        }
         return own;
     }
-    numbers_refusal(s, numbers, extra)?;
-    settings?;
+    let of_numbers = R::of(numbers_refusal(s, numbers, extra));
+    if of_numbers.is_refused() {
+        return of_numbers;
+    }
+    if settings.is_refused() {
+        return settings;
+    }
     axis_refusal(s, own)
 }
 
@@ -218,29 +225,21 @@ pub fn point_refusal(s: &[f64], p: Vec3) -> Result<(), Refusal>
     body_refusal(s, &numbers[..], &none, Ok(()), Ok(()))
 }
 
-pub fn sphere_refusal(
-    s: &[f64],
-    b: Sphere,
-    extra: &[f64],
-    settings: Result<(), Refusal>,
-) -> Result<(), Refusal>
-    ensures { WithSettings (refused_by settings) (refusals.sphere_tests s.now b extra.now) (refused_by result) }
+pub fn sphere_refusal<R: Outcome>(s: &[f64], b: Sphere, extra: &[f64], settings: R) -> R
+    ensures { WithSettings (R.number settings) (refusals.sphere_tests s.now b extra.now) (R.number result) }
 {
     let c = b.center;
     let numbers = [c.x, c.y, c.z, b.radius];
-    body_refusal(s, &numbers[..], extra, settings, radius_refusal(b.radius))
+    let own = R::of(radius_refusal(b.radius));
+    body_refusal(s, &numbers[..], extra, settings, own)
 }
 
-pub fn box_refusal(
-    s: &[f64],
-    x: Aabb,
-    extra: &[f64],
-    settings: Result<(), Refusal>,
-) -> Result<(), Refusal>
-    ensures { WithSettings (refused_by settings) (refusals.box_tests s.now x extra.now) (refused_by result) }
+pub fn box_refusal<R: Outcome>(s: &[f64], x: Aabb, extra: &[f64], settings: R) -> R
+    ensures { WithSettings (R.number settings) (refusals.box_tests s.now x extra.now) (R.number result) }
 {
     let numbers = [x.z0, x.z1, x.r0, x.r1];
-    body_refusal(s, &numbers[..], extra, settings, bounds_refusal(x))
+    let own = R::of(bounds_refusal(x));
+    body_refusal(s, &numbers[..], extra, settings, own)
 }
 
 // Two lists of 3 to 256 vertices, and more numbers that are given; then the section's own.

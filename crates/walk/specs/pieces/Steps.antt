@@ -44,7 +44,12 @@ stacked w ls (suc n) = part (piece (get_or w (2 * n) nan) (get_or w (2 * n + 1) 
 abbrev pub pieces : List Part → List Piece
 pieces = map (λ (p : Part). p.piece)
 
--- right is known where the first one ends, and where each one starts the next one ends
+-- the pieces lie end to end, from z down, and what each has at its left end is known
+abbrev pub Chain : RadialBand → Float → List Part → Type 0
+Chain b z [] = Unit {0}
+Chain b z (p ∷ ps) = (p.piece.z1 ≡ z) × ((p.left ≡ cross_at b p.piece.z0) × Chain b p.piece.z0 ps)
+
+-- of the pieces that wait: both ends of the one taken next are known, right being its right one, and the left ends of those below
 abbrev pub Known : RadialBand → Cross → List Part → Type 0
 Known b right [] = Unit {0}
-Known b right (p ∷ ps) = (right ≡ cross_at b p.piece.z1) × (p.left ≡ cross_at b p.piece.z0) × Known b p.left ps
+Known b right (p ∷ ps) = (right ≡ cross_at b p.piece.z1) × ((p.left ≡ cross_at b p.piece.z0) × Chain b p.piece.z0 ps)

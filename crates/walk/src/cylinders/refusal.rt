@@ -7,7 +7,7 @@ ghost use Rattle.walk.specs.cylinders.Cylinders.{cylinder_own};
 ghost use Rattle.walk.specs.cylinders.Steps.{Checked};
 
 use crate::bands::{Axis, Cylinder};
-use section::{Refusal, body_refusal};
+use section::{Outcome, Refusal, body_refusal};
 
 // A negative radius, and an axis neither along nor across the spindle.
 #[tactic(auto, unfolding(section::specs::profile::Refusals::refusal))]
@@ -23,24 +23,19 @@ pub fn own_refusal(radius: f64, axis: Axis) -> Result<(), Refusal>
     }
 }
 
-pub fn cylinder_refusal(
+pub fn cylinder_refusal<R: Outcome>(
     s: &[f64],
     c: Cylinder,
     axis: Axis,
     extra: &[f64],
-    settings: Result<(), Refusal>,
-) -> Result<(), Refusal>
+    settings: R,
+) -> R
     requires { axis ≡ axes.axis c }
-    ensures { Checked s.now c extra.now (refused_by settings) (refused_by result) }
+    ensures { Checked s.now c extra.now (R.number settings) (R.number result) }
 {
     let a = c.a;
     let b = c.b;
     let numbers = [a.x, a.y, a.z, b.x, b.y, b.z, c.radius];
-    body_refusal(
-        s,
-        &numbers[..],
-        extra,
-        settings,
-        own_refusal(c.radius, axis),
-    )
+    let own = R::of(own_refusal(c.radius, axis));
+    body_refusal(s, &numbers[..], extra, settings, own)
 }

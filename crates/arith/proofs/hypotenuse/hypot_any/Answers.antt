@@ -16,24 +16,24 @@ a_number x h = subst (λ b. T (not b)) (sym h) tt
 
 pub returns-then-is_infinite : goal.returns-then-is_infinite
 returns-then-is_infinite c = infinity ∙ elim c.then-is_infinite.branch [
-  | then-is_infinite-via-then-is_infinite w ↦ infinite_left _ _ (sym c.is_infinite.ensures.value ∙ w.if-is_infinite.true)
+  | then-is_infinite-via-then-is_infinite w ↦ infinite_left _ _ (sym c.is_infinite.ensures ∙ w.if-is_infinite.true)
   | then-is_infinite-via-else-is_infinite+then-is_infinite-2 w ↦ infinite_right _ _
-      (sym w.is_infinite-else-is_infinite.ensures.value ∙ w.if-is_infinite-2.true)
+      (sym w.is_infinite-else-is_infinite.ensures ∙ w.if-is_infinite-2.true)
 ]
 
 pub returns-then-is_nan : goal.returns-then-is_nan
 returns-then-is_nan c = none ∙ elim c.then-is_nan.branch [
-  | then-is_nan-via-then-is_nan w ↦ nan_left _ _ (sym c.is_infinite-else-is_infinite.ensures.value ∙ c.if-is_infinite-2.false)
+  | then-is_nan-via-then-is_nan w ↦ nan_left _ _ (sym c.is_infinite-else-is_infinite.ensures ∙ c.if-is_infinite-2.false)
       (sym c.is_nan.ensures.value ∙ w.if-is_nan.true)
-  | then-is_nan-via-else-is_nan+then-is_nan-2 w ↦ nan_right _ _ (sym c.is_infinite.ensures.value ∙ c.if-is_infinite.false)
+  | then-is_nan-via-else-is_nan+then-is_nan-2 w ↦ nan_right _ _ (sym c.is_infinite.ensures ∙ c.if-is_infinite.false)
       (sym w.is_nan-else-is_nan.ensures.value ∙ w.if-is_nan-2.true)
 ]
 
 pub hypot_bits-requires : goal.hypot_bits-requires
 hypot_bits-requires c = (
-  finite _ (held _ c.well_formed.0.1) (sym c.is_infinite.ensures.value ∙ c.if-is_infinite.false)
+  finite _ (held _ c.well_formed.0.1) (sym c.is_infinite.ensures ∙ c.if-is_infinite.false)
       (a_number _ (sym c.is_nan.ensures.value ∙ c.if-is_nan.false)),
-  finite _ (held _ c.well_formed.1.0.1) (sym c.is_infinite-else-is_infinite.ensures.value ∙ c.if-is_infinite-2.false)
+  finite _ (held _ c.well_formed.1.0.1) (sym c.is_infinite-else-is_infinite.ensures ∙ c.if-is_infinite-2.false)
       (a_number _ (sym c.is_nan-else-is_nan.ensures.value ∙ c.if-is_nan-2.false)),
 )
 

@@ -7,4 +7,4 @@ pub loop-i-init : goal.loop-i-init
 loop-i-init c = filled_start _ c.told-items
 
 pub loop-i-preserved : goal.loop-i-preserved
-loop-i-preserved c = filled_next _ c.loop-i.invariant c.loop-i-test.true (omega arith) c.put.ensures
+loop-i-preserved c = filled_next _ c.loop-i.invariant c.loop-i-test.true c.put.ensures

@@ -4,8 +4,8 @@ use Rattle.section.proofs.refusals.refusal.axis_refusal.Goals as goal
 
 pub returns-then-any_below_axis : goal.returns-then-any_below_axis
 unfolding refusal
-returns-then-any_below_axis c = rw (← c.any_below_axis.ensures, c.if-any_below_axis.true)
+returns-then-any_below_axis g c = rw (c.of.ensures, ← c.any_below_axis.ensures, c.if-any_below_axis.true)
 
 pub returns : goal.returns
 unfolding refusal
-returns c = rw (← c.any_below_axis.ensures, c.if-any_below_axis.false)
+returns g c = rw (← c.any_below_axis.ensures, c.if-any_below_axis.false)

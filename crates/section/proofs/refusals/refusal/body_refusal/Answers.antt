@@ -1,43 +1,43 @@
 -- `section::refusals::refusal::body_refusal` meets its contract.
 use mathlib.Core.Path.{refl, ◌∙◌}
 use Rattle.section.specs.profile.Refusals.{number_tests}
-use Rattle.section.proofs.profile.Numbered.{above_zero, handed_on}
+use Rattle.section.proofs.profile.Numbered.{is_above, is_none}
 use Rattle.section.proofs.profile.Refusals.Beyond.{none_below, none_refused, none_within}
 use Rattle.section.proofs.profile.Refusals.Ordered.{by_first, by_second, by_own, or_else_first, or_else_second}
 use Rattle.section.proofs.refusals.refusal.body_refusal.Goals as goal
 
-pub returns-in_err-shape_refusal : goal.returns-in_err-shape_refusal
-returns-in_err-shape_refusal c =
-    rw (handed_on c.from_residual.result c.from_residual.ensures) (by_first _ (number_tests _) tt _ c.in_err-shape_refusal.ensures (above_zero _))
+pub returns-then-is_refused : goal.returns-then-is_refused
+returns-then-is_refused g c =
+    by_first _ (number_tests _) tt _ (c.of-of_shape.ensures ∙ c.shape_refusal.ensures) (is_above c.is_refused.ensures c.if-is_refused.true)
 
-pub returns-in_err-settings : goal.returns-in_err-settings
-returns-in_err-settings c =
-    rw (handed_on c.from_residual-in_err-settings.result c.from_residual-in_err-settings.ensures, c.in_err-settings.was)
-    (or_else_first _ _ (above_zero _)
-    ∙ by_own _ _ tt _ c.in_ok-shape_refusal.ensures refl
-    (none_refused _ (none_within (c.numbers_fine.ensures c.if-numbers_fine.true))) refl)
+pub returns-then-is_refused-2 : goal.returns-then-is_refused-2
+returns-then-is_refused-2 g c =
+    or_else_first _ _ (is_above c.is_refused-then-numbers_fine.ensures c.if-is_refused-2.true)
+    ∙ by_own _ _ tt _ (c.of-of_shape.ensures ∙ c.shape_refusal.ensures) (is_none c.is_refused.ensures c.if-is_refused.false)
+    (none_refused _ (none_within (c.numbers_fine.ensures c.if-numbers_fine.true))) refl
 
 pub returns-then-numbers_fine : goal.returns-then-numbers_fine
-returns-then-numbers_fine c =
+returns-then-numbers_fine g c =
     let fine = c.numbers_fine.ensures c.if-numbers_fine.true in
-    rw c.in_ok-settings.was
-    (or_else_second _ _ (none_below _ fine.section.over)
-    ∙ by_own _ _ tt _ c.in_ok-shape_refusal.ensures refl
-    (none_refused _ (none_within fine)) refl)
+    or_else_second _ _ (none_below _ fine.section.over)
+    ∙ or_else_second _ _ (is_none c.is_refused-then-numbers_fine.ensures c.if-is_refused-2.false)
+    ∙ by_own _ _ tt _ (c.of-of_shape.ensures ∙ c.shape_refusal.ensures) (is_none c.is_refused.ensures c.if-is_refused.false)
+    (none_refused _ (none_within fine)) refl
 
-pub returns-in_err-numbers_refusal : goal.returns-in_err-numbers_refusal
-returns-in_err-numbers_refusal c =
-    rw (handed_on c.from_residual-in_err-numbers_refusal.result c.from_residual-in_err-numbers_refusal.ensures)
-    (by_second _ _ tt _ c.in_ok-shape_refusal.ensures refl c.in_err-numbers_refusal.ensures (above_zero _))
+pub returns-then-is_refused-3 : goal.returns-then-is_refused-3
+returns-then-is_refused-3 g c =
+    by_second _ _ tt _ (c.of-of_shape.ensures ∙ c.shape_refusal.ensures) (is_none c.is_refused.ensures c.if-is_refused.false)
+    (c.of-of_numbers.ensures ∙ c.numbers_refusal.ensures) (is_above c.is_refused-2.ensures c.if-is_refused-3.true)
 
-pub returns-in_err-settings-2 : goal.returns-in_err-settings-2
-returns-in_err-settings-2 c =
-    rw (handed_on c.from_residual-in_err-settings-2.result c.from_residual-in_err-settings-2.ensures, c.in_err-settings-2.was)
-    (or_else_first _ _ (above_zero _)
-    ∙ by_own _ _ tt _ c.in_ok-shape_refusal.ensures refl c.in_ok-numbers_refusal.ensures refl)
+pub returns-then-is_refused-4 : goal.returns-then-is_refused-4
+returns-then-is_refused-4 g c =
+    or_else_first _ _ (is_above c.is_refused-3.ensures c.if-is_refused-4.true)
+    ∙ by_own _ _ tt _ (c.of-of_shape.ensures ∙ c.shape_refusal.ensures) (is_none c.is_refused.ensures c.if-is_refused.false)
+    (c.of-of_numbers.ensures ∙ c.numbers_refusal.ensures) (is_none c.is_refused-2.ensures c.if-is_refused-3.false)
 
 pub returns : goal.returns
-returns c =
-    rw c.in_ok-settings-2.was
-    (c.axis_refusal.ensures
-    ∙ by_own _ _ tt _ c.in_ok-shape_refusal.ensures refl c.in_ok-numbers_refusal.ensures refl)
+returns g c =
+    c.axis_refusal.ensures
+    ∙ or_else_second _ _ (is_none c.is_refused-3.ensures c.if-is_refused-4.false)
+    ∙ by_own _ _ tt _ (c.of-of_shape.ensures ∙ c.shape_refusal.ensures) (is_none c.is_refused.ensures c.if-is_refused.false)
+    (c.of-of_numbers.ensures ∙ c.numbers_refusal.ensures) (is_none c.is_refused-2.ensures c.if-is_refused-3.false)

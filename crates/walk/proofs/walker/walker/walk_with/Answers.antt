@@ -5,6 +5,7 @@ use lib.ListN.{length}
 use Rattle.walk.specs.pieces.Steps.{pieces}
 use Rattle.walk.specs.declared.pieces.shapes.Part.{Part}
 use Rattle.std.proofs.lemmas.List.{length-map}
+use Rattle.walk.proofs.pieces.KnownEnds.{next_half, next_below}
 use Rattle.walk.proofs.Loop.{begun, ended, cut_short, has_box, has_room, turned}
 use Rattle.walk.proofs.walker.walker.walk_with.Goals.{then-halved, else-halved}
 use Rattle.walk.proofs.walker.walker.walk_with.Goals as goal
@@ -14,7 +15,7 @@ loop-part-init c =
     rw (c.push.ensures, c.new-waiting.ensures, c.whole-whole.ensures)
     (record {
       state = begun c.start-so_far.ensures c.sampled.ensures;
-      known = (rw (c.cross_at-right.ensures, c.whole-whole.ensures), refl, tt);
+      known = (rw (c.cross_at-right.ensures, c.whole-whole.ensures), (refl, tt));
     })
 
 pub returns-then-so_far-cap : goal.returns-then-so_far-cap
@@ -42,13 +43,13 @@ loop-part-preserved c =
           record {
             state = turned state (ap pieces c.in-Some.ensures) left c.measure-m.ensures
                 (sym w.if-halved.true ∙ c.halved.ensures) (ap pieces next) count;
-            known = rw (next, w.right-is) (known.0, refl, (refl, known.1, known.2));
+            known = rw (next, w.right-is) (next_half _ _ _ known);
           }
       | else-halved w ↦
           record {
             state = turned state (ap pieces c.in-Some.ensures) left c.measure-m.ensures
                 (sym w.if-halved.false ∙ c.halved.ensures) (ap pieces w.waiting-is) count;
-            known = rw (w.waiting-is, w.right-is) known.2;
+            known = rw (w.waiting-is, w.right-is) (next_below _ _ _ known);
           }
     ])
 
