@@ -1,5 +1,5 @@
 -- What holds of the array while vertices are copied to its front: at the start, after a turn, and at the end.
-use Prim.Native.Nat.{ℕ, ◌+◌, ◌*◌, ◌<◌, ◌≤◌}
+use Prim.Native.Nat.{ℕ, ◌+◌, ◌*◌, ◌-◌, ◌<◌, ◌≤◌}
 use native.Mathlib.Omega.{arith}
 use mathlib.Core.List.{List, [], ◌∷◌, ◌++◌}
 use mathlib.Core.Logic.{◌⊎◌, inl, inr}
@@ -49,6 +49,10 @@ filled_next {xs} {i} {l} {m} d f h e =
       size = grind (arith, common_steps, e, f.size);
       front = λ k. rw e (front_next d f h (omega arith));
     }
+
+-- a later index is nearer to the end
+pub nearer : {i n j : ℕ} → i < n → i < j → n - j < n - i
+nearer h k = omega arith
 
 -- at the end the front is the flattened list
 pub front_flattened : {xs : List Vertex} {i : ℕ} {l : List Float} → FrontFilled xs i l → length xs ≤ i → length xs ≤ 256
