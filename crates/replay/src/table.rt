@@ -1,6 +1,7 @@
 // The kinds of query, and what the line of each holds. A new kind is a variant with its letters and its
 // row here, and an arm in ask.rt.
-ghost use Rattle.std.specs.Prelude.{◌≤◌};
+ghost use Rattle.std.specs.Prelude.{◌≡◌, ◌≤◌};
+ghost use Rattle.replay.specs.Kinds as kinds;
 ghost use Rattle.replay.specs.Rows.{Fits};
 
 #[derive(Clone, Copy, Debug, PartialEq, Eq)]
@@ -41,7 +42,9 @@ fn holds(lists: usize, numbers: usize, sized: bool) -> Row
 }
 
 // A verdict, by the letter behind its `v`.
-fn verdict_of(letter: u8) -> Option<Kind> {
+fn verdict_of(letter: u8) -> Option<Kind>
+    ensures { result ≡ kinds.verdict_of letter }
+{
     match letter {
         b's' => Some(Kind::VerdictSphere),
         b'b' => Some(Kind::VerdictBox),
@@ -53,7 +56,9 @@ fn verdict_of(letter: u8) -> Option<Kind> {
 
 impl Kind {
     // That of a line which begins with these letters.
-    pub fn of(letter: u8, next: u8) -> Option<Kind> {
+    pub fn of(letter: u8, next: u8) -> Option<Kind>
+        ensures { result ≡ kinds.kind_of letter next }
+    {
         match letter {
             b'r' => Some(Kind::Root),
             b'h' => Some(Kind::Hypot),
@@ -71,7 +76,9 @@ impl Kind {
     }
 
     // How many letters it has.
-    pub fn letters(self) -> usize {
+    pub fn letters(self) -> usize
+        ensures { result ≡ kinds.letters self }
+    {
         match self {
             Kind::VerdictSphere | Kind::VerdictBox | Kind::VerdictConvex | Kind::VerdictCylinder =>
                 2,
