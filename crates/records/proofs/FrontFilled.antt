@@ -54,13 +54,18 @@ filled_next {xs} {i} {l} {m} d f h e =
 pub nearer : {i n j : ℕ} → i < n → i < j → n - j < n - i
 nearer h k = omega arith
 
--- at the end the front is the flattened list
+-- the front of all vertices is the flattened list
+pub front_whole : (xs : List Vertex) (l : List Float) → take (2 * length xs) l ≡ flattened (take (length xs) xs)
+    → take (2 * length xs) l ≡ flattened xs
+front_whole xs l f = rw take-length at f
+
+-- so at the end the front is that list
 pub front_flattened : {xs : List Vertex} {i : ℕ} {l : List Float} → FrontFilled xs i l → length xs ≤ i → length xs ≤ 256
     → take (2 * length xs) l ≡ flattened xs
 front_flattened {xs} {i} {l} f h k =
     let e : i ≡ length xs = omega (arith, f.low) in
     let front = rw e at f.front in
-    rw take-length at front k
+    front_whole _ _ (front k)
 
 -- and what is promised on it, and of a refusal where there are more than 256 vertices, is promised on the flattened list
 pub answered : {R : Type 0} (P : List Float → R → Type 0) {xs : List Vertex} {i : ℕ} {l : List Float} {refused r : R}
